@@ -1,1 +1,14 @@
+pub mod Accepted
+pub mod Bytes
+pub mod Drafts
+pub mod Edges
+pub mod Ends
+pub mod Kept
+pub mod Lists
 pub mod Lowests
+pub mod Marks
+pub mod Named
+pub mod Passing
+pub mod ReadBack
+pub mod Rounds
+pub mod Spelled

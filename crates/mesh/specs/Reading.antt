@@ -14,7 +14,7 @@ use Rattle.refusal.specs.declared.Refusal.{Refusal}
 use Rattle.refusal.specs.declared.Refusal.the-variants.{Truncated, OutOfOrder, BadVertex, BadCurve, ThirdFace, TooMany, TrailingByte, OpenEdge, BadValence, BadDimension}
 use Rattle.mesh.specs.declared.Side.{Side}
 use Rattle.mesh.specs.Lowest.{lowest}
-use Rattle.mesh.specs.Shape.{Shape, nowhere, around, sides, edges, edge-of, uses, degree, occurs, corners, curve-edges}
+use Rattle.mesh.specs.Shape.{Shape, any, nowhere, around, sides, edges, edge-of, uses, degree, occurs, corners, curve-edges}
 use Rattle.mesh.specs.Rules.{proper, fits}
 use Rattle.mesh.specs.Records.{Record, vertex, face, curve, end, next}
 
@@ -31,10 +31,6 @@ blank = record { dims = []; faces = []; named = [] }
 abbrev pub empty : {A : Type 0} → List A → Bool
 empty [] = true
 empty (x ∷ xs) = false
-
-abbrev pub any : {A : Type 0} → (A → Bool) → List A → Bool
-any p [] = false
-any p (x ∷ xs) = p x || any p xs
 
 -- kind out of order: records come as vertices, faces, curves, end
 abbrev pub out-of-order : Draft → Record → Bool

@@ -70,9 +70,12 @@ marked [] ms = []
 marked (e ∷ es) [] = []
 marked (e ∷ es) (m ∷ ms) = cond m (e ∷ marked es ms) (marked es ms)
 
+abbrev pub any : {A : Type 0} → (A → Bool) → List A → Bool
+any p [] = false
+any p (x ∷ xs) = p x || any p xs
+
 abbrev pub occurs : ℕ → List ℕ → Bool
-occurs v [] = false
-occurs v (x ∷ xs) = eqb x v || occurs v xs
+occurs v xs = any (λ x. eqb x v) xs
 
 -- the vertices at the corners of all faces, face after face
 abbrev pub corners : List (List ℕ) → List ℕ

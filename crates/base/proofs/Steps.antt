@@ -1,0 +1,66 @@
+-- One turn of the loops over a face's corners and sides. Assumes nothing.
+use mathlib.Core.Bool.{Bool, true, false, cond, not, _&&_}
+use mathlib.Core.List.{List, [], _∷_, _++_, append-assoc}
+use mathlib.Core.Path.{_≡_, refl, sym, ap, _∙_}
+use Prim.Native.Nat.{ℕ, _+_, _-_, _*_, _<_, _≤_}
+use native.Mathlib.Omega.{arith}
+use lib.Dec.{ltb}
+use lib.ListN.{length, getD, take, drop}
+use Rattle.std.specs.Options.{isSome}
+use Rattle.std.specs.shelf.Lists.{folded}
+use Rattle.std.proofs.shelf.Lists.{at-drop-more, at-drop-all, take-rest, append-nil}
+use Rattle.std.proofs.shelf.Tests.{cond-true, cond-false, and-left, and-right}
+use Rattle.mesh.specs.declared.Side.{Side}
+use Rattle.mesh.specs.Records.{numbers}
+use Rattle.mesh.specs.Rules.{proper, all-below, distinct}
+use Rattle.mesh.specs.Shape.{side, nowhere, onward, around, occurs, edge-of, with-side}
+
+-- what is left once x is pushed stands behind x
+pub pushed : {A : Type 0} (before after rest rest′ : List A) (x : A) → after ≡ before ++ x ∷ [] → rest ≡ x ∷ rest′ → after ++ rest′ ≡ before ++ rest
+pushed before after rest rest′ x e f = ap (λ l. l ++ rest′) e ∙ append-assoc before (x ∷ []) rest′ ∙ ap (λ l. before ++ l) (sym f)
+
+pub numbers-front : (bs : List ℕ) → 2 ≤ length bs → numbers bs ≡ (getD bs 0 0 + 256 * getD bs 1 0) ∷ numbers (take (length bs - 2) (drop 2 bs))
+numbers-front [] l = absurd (omega arith)
+numbers-front (a ∷ []) l = absurd (omega arith)
+numbers-front (a ∷ b ∷ bs) l = ap (λ r. (a + 256 * b) ∷ numbers r) (sym (take-rest (a ∷ b ∷ bs) 2))
+
+pub numbers-short : (bs : List ℕ) → length bs < 2 → numbers bs ≡ []
+numbers-short [] l = refl
+numbers-short (a ∷ []) l = refl
+numbers-short (a ∷ b ∷ bs) l = absurd (omega arith)
+
+pub around-front : (cs : List ℕ) → 1 ≤ length cs → around cs ≡ onward (getD cs 0 0) (getD cs 0 0) (take (length cs - 1) (drop 1 cs))
+around-front [] l = absurd (omega arith)
+around-front (c ∷ cs) l = ap (onward c c) (sym (take-rest (c ∷ cs) 1))
+
+pub around-none : (cs : List ℕ) → length cs < 1 → around cs ≡ []
+around-none [] l = refl
+around-none (c ∷ cs) l = absurd (omega arith)
+
+pub proper-front : (n : ℕ) (cs : List ℕ) → 1 ≤ length cs → proper n cs ≡ proper n (getD cs 0 0 ∷ take (length cs - 1) (drop 1 cs))
+proper-front n [] l = absurd (omega arith)
+proper-front n (c ∷ cs) l = ap (λ r. proper n (c ∷ r)) (sym (take-rest (c ∷ cs) 1))
+
+pub proper-none : (n : ℕ) (cs : List ℕ) → length cs < 1 → proper n cs ≡ true
+proper-none n [] l = refl
+proper-none n (c ∷ cs) l = absurd (omega arith)
+
+both-nots : (a b c d : Bool) → a ≡ true → b ≡ false → ((a && c) && (not b && d)) ≡ (c && d)
+both-nots true false c d e f = refl
+both-nots true true c d e f = let z : _≡_ {A = ℕ} 0 1 = cc in absurd (omega arith)
+both-nots false b c d e f = let z : _≡_ {A = ℕ} 0 1 = cc in absurd (omega arith)
+
+pub proper-more : (n c : ℕ) (cs : List ℕ) → ltb c n ≡ true → occurs c cs ≡ false → proper n (c ∷ cs) ≡ proper n cs
+proper-more n c cs e f = both-nots (ltb c n) (occurs c cs) (all-below n cs) (distinct cs) e f
+
+pub proper-unknown : (n c : ℕ) (cs : List ℕ) → ltb c n ≡ false → proper n (c ∷ cs) ≡ false
+proper-unknown n c cs e = and-left _ _ (and-left (ltb c n) (all-below n cs) e)
+
+pub proper-twice : (n c : ℕ) (cs : List ℕ) → occurs c cs ≡ true → proper n (c ∷ cs) ≡ false
+proper-twice n c cs e = and-right (all-below n (c ∷ cs)) _ (and-left (not (occurs c cs)) (distinct cs) (ap not e))
+
+pub with-known : (es : List Side) (s : Side) → isSome (edge-of es s) ≡ true → with-side es s ≡ es
+with-known es s e = cond-true (isSome (edge-of es s)) es (es ++ s ∷ []) e
+
+pub with-new : (es : List Side) (s : Side) → isSome (edge-of es s) ≡ false → with-side es s ≡ es ++ s ∷ []
+with-new es s e = cond-false (isSome (edge-of es s)) es (es ++ s ∷ []) e

@@ -1,0 +1,8 @@
+// A base: the coarsest control mesh, read from its records, judged, and written back.
+mod corners;
+mod draft;
+mod record;
+mod sides;
+
+pub use record::Record;
+pub use record::next_record;
