@@ -1,18 +1,19 @@
 -- Which row refuses a record, test by test. Assumes nothing.
 use mathlib.Core.Bool.{Bool, true, false, cond}
-use mathlib.Core.List.{List, [], _∷_}
+use mathlib.Core.List.{List, [], _∷_, _++_}
 use mathlib.Core.Path.{_≡_, refl, sym, _∙_}
 use Prim.Native.Nat.{ℕ}
 use native.Mathlib.Omega.{arith}
-use lib.Dec.{eqb}
+use lib.Dec.{eqb, leb, ltb}
 use lib.ListN.{length}
-use Rattle.std.proofs.shelf.Tests.{cond-true, cond-false, ne-eqb}
+use Rattle.std.proofs.shelf.Tests.{cond-true, cond-false, ne-eqb, or-right, or-from}
 use Rattle.std.specs.declared.option.Option.the-variants.{Some, None}
 use Rattle.refusal.specs.declared.Refusal.the-variants.{OutOfOrder, BadVertex, BadCurve, ThirdFace, TooMany}
 use Rattle.mesh.specs.declared.Side.{Side}
 use Rattle.mesh.specs.Reading.{Draft, empty, judged, out-of-order, bad-vertex, bad-curve, third-face, too-many}
-use Rattle.mesh.specs.Records.{Record}
-use Rattle.base.specs.Drafts.{parts}
+use Rattle.mesh.specs.Records.{Record, face, curve}
+use Rattle.mesh.specs.Shape.{edges, edge-of, occurs}
+use Rattle.base.specs.Drafts.{parts, Passed}
 
 module _ (n : ℕ) (d : Draft) (r : Record) where
   pub row-order : out-of-order d r ≡ true → judged n d r ≡ Some (OutOfOrder n)
@@ -47,3 +48,14 @@ empty-eqb (x ∷ xs) = sym (ne-eqb _ 0 (λ e. omega arith))
 pub empty-parts : (ks : List ℕ) (ss : List Side) → empty (parts ks ss) ≡ empty ks
 empty-parts [] ss = refl
 empty-parts (k ∷ ks) ss = refl
+
+module _ (n : ℕ) (d : Draft) (cs : List ℕ) (passed : Passed d cs) where
+  pub passed-many : ltb 512 (length (edges (d .faces ++ cs ∷ []))) ≡ true → judged n d (face cs) ≡ Some (TooMany n)
+  passed-many e = row-many n d (face cs) (passed .ordered) (passed .known) refl (passed .room) (or-right (leb 256 (length (d .faces))) _ e)
+
+  pub passed-none : ltb 512 (length (edges (d .faces ++ cs ∷ []))) ≡ false → judged n d (face cs) ≡ None
+  passed-none e = row-none n d (face cs) (passed .ordered) (passed .known) refl (passed .room) (or-from (leb 256 (length (d .faces))) _ (passed .few) e)
+
+-- a curve record whose edge is found
+pub curve-found : (d : Draft) (s : Side) (e : ℕ) → edge-of (edges (d .faces)) s ≡ Some e → bad-curve d (curve s) ≡ occurs e (d .named)
+curve-found d s e found = rw found

@@ -56,3 +56,13 @@ pub record Passed (d : reading.Draft) (cs : List ℕ) : Type 0 where
   pub known : bad-vertex d (face cs) ≡ false
   pub room : third-face d (face cs) ≡ false
   pub few : leb 256 (length (d .faces)) ≡ false
+
+-- a fault is the refusal that reading gives, or want of memory
+abbrev pub Failed : {A : Type 0} → Fault → Result A Refusal → Type 0
+Failed (Refused x) r = r ≡ Err x
+Failed Memory r = Unit {0}
+
+-- reading gave this draft, and left these bytes
+pub record Ended (m : Draft) (rest : List ℕ) (r : Result (reading.Draft × List ℕ) Refusal) : Type 0 where
+  pub tied : Tied m
+  pub value : r ≡ Ok (drafted m, rest)

@@ -1,6 +1,7 @@
 // A base: the coarsest control mesh, read from its records, judged, and written back.
 mod corners;
 mod draft;
+mod reading;
 mod record;
 mod sides;
 

@@ -1,0 +1,30 @@
+// From bytes to a judged base.
+ghost use mathlib.Core.Path.{_≡_};
+ghost use lib.ListN.{length};
+ghost use Rattle.std.specs.Results.{Cases};
+ghost use Rattle.mesh.specs.Reading.{records, blank};
+ghost use Rattle.base.specs.Drafts.{Failed, Ended};
+use crate::draft::Draft;
+use crate::record::Record;
+use crate::record::next_record;
+use refusal::Fault;
+use refusal::FaultFromRefusal;
+use refusal::Refusal;
+use std::alloc::Global;
+
+// The draft at the end record, and the bytes after it. A record has a byte at least, so there are no more turns than bytes.
+fn read_records<'a>(heap: Global, bytes: &'a [u8]) -> Result<(Draft, &'a [u8]), Fault>
+    ensures { λ r. ⌜ Cases r (λ p. Ended (p .0) (p .1 .now) (records (length (now (bytes .entry))) 0 blank (now (bytes .entry)))) (λ f. Failed f (records (length (now (bytes .entry))) 0 blank (now (bytes .entry)))) ⌝ }
+{
+    let mut draft = Draft::new(heap);
+    let mut rest = bytes;
+    for number in 0..bytes.len() {
+        let (next, after) = next_record(rest, number)?;
+        draft.take(heap, next, number)?;
+        if let Record::End = next {
+            return Ok((draft, after));
+        }
+        rest = after;
+    }
+    Err(Fault::Refused(Refusal::Truncated(bytes.len())))
+}
