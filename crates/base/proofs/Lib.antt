@@ -1,4 +1,5 @@
 pub mod Heads
+pub mod Judging
 pub mod Rows
 pub mod Steps
 pub mod Tables

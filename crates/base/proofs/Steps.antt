@@ -1,19 +1,19 @@
 -- One turn of the loops over a face's corners and sides. Assumes nothing.
 use mathlib.Core.Bool.{Bool, true, false, cond, not, _&&_}
 use mathlib.Core.List.{List, [], _∷_, _++_, append-assoc}
-use mathlib.Core.Path.{_≡_, refl, sym, ap, _∙_}
+use mathlib.Core.Path.{_≡_, refl, sym, ap, ap₂, _∙_}
 use Prim.Native.Nat.{ℕ, _+_, _-_, _*_, _<_, _≤_}
 use native.Mathlib.Omega.{arith}
 use lib.Dec.{ltb}
 use lib.ListN.{length, getD, take, drop}
 use Rattle.std.specs.Options.{isSome}
 use Rattle.std.specs.shelf.Lists.{folded}
-use Rattle.std.proofs.shelf.Lists.{at-drop-more, at-drop-all, take-rest, append-nil}
+use Rattle.std.proofs.shelf.Lists.{at-drop-more, drop-more, drop-all, take-rest}
 use Rattle.std.proofs.shelf.Tests.{cond-true, cond-false, and-left, and-right}
 use Rattle.mesh.specs.declared.Side.{Side}
 use Rattle.mesh.specs.Records.{numbers}
 use Rattle.mesh.specs.Rules.{proper, all-below, distinct}
-use Rattle.mesh.specs.Shape.{side, nowhere, onward, around, occurs, edge-of, with-side}
+use Rattle.mesh.specs.Shape.{nowhere, onward, around, occurs, edge-of, with-side, marked}
 
 -- what is left once x is pushed stands behind x
 pub pushed : {A : Type 0} (before after rest rest′ : List A) (x : A) → after ≡ before ++ x ∷ [] → rest ≡ x ∷ rest′ → after ++ rest′ ≡ before ++ rest
@@ -64,3 +64,15 @@ with-known es s e = cond-true (isSome (edge-of es s)) es (es ++ s ∷ []) e
 
 pub with-new : (es : List Side) (s : Side) → isSome (edge-of es s) ≡ false → with-side es s ≡ es ++ s ∷ []
 with-new es s e = cond-false (isSome (edge-of es s)) es (es ++ s ∷ []) e
+
+marked-drop : (es : List Side) (ms : List Bool) (i : ℕ) → i < length es → i < length ms → marked (drop i es) (drop i ms) ≡ cond (getD ms i false) (getD es i nowhere ∷ marked (drop (i + 1) es) (drop (i + 1) ms)) (marked (drop (i + 1) es) (drop (i + 1) ms))
+marked-drop es ms i l k = ap₂ marked (drop-more es i nowhere l) (drop-more ms i false k)
+
+pub marked-yes : (es : List Side) (ms : List Bool) (i : ℕ) → i < length es → i < length ms → getD ms i false ≡ true → marked (drop i es) (drop i ms) ≡ getD es i nowhere ∷ marked (drop (i + 1) es) (drop (i + 1) ms)
+marked-yes es ms i l k e = marked-drop es ms i l k ∙ cond-true (getD ms i false) _ _ e
+
+pub marked-no : (es : List Side) (ms : List Bool) (i : ℕ) → i < length es → i < length ms → getD ms i false ≡ false → marked (drop i es) (drop i ms) ≡ marked (drop (i + 1) es) (drop (i + 1) ms)
+marked-no es ms i l k e = marked-drop es ms i l k ∙ cond-false (getD ms i false) _ _ e
+
+pub marked-all : (es : List Side) (ms : List Bool) (i : ℕ) → length es ≤ i → marked (drop i es) (drop i ms) ≡ []
+marked-all es ms i l = ap (λ xs. marked xs (drop i ms)) (drop-all i es l)

@@ -1,5 +1,5 @@
 -- What the tables of a draft stand for.
-use mathlib.Core.Bool.{false}
+use mathlib.Core.Bool.{Bool, false}
 use mathlib.Core.List.{List, [], _∷_, map}
 use mathlib.Core.Path.{_≡_}
 use Prim.Native.Nat.{ℕ}
@@ -66,3 +66,8 @@ Failed Memory r = Unit {0}
 pub record Ended (m : Draft) (rest : List ℕ) (r : Result (reading.Draft × List ℕ) Refusal) : Type 0 where
   pub tied : Tied m
   pub value : r ≡ Ok (drafted m, rest)
+
+-- the finished draft keeps the rules, and these are the marks of its edges
+pub record Judged (m : Draft) (marks : List Bool) : Type 0 where
+  pub passes : reading.checked (reading.finished (drafted m)) ≡ Ok (reading.finished (drafted m))
+  pub marking : marks ≡ reading.finished (drafted m) .curves

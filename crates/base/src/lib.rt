@@ -3,6 +3,7 @@ mod corners;
 mod draft;
 mod reading;
 mod record;
+mod rules;
 mod sides;
 
 pub use record::Record;
