@@ -5,3 +5,4 @@ pub mod Steps
 pub mod Tables
 pub mod Tests
 pub mod Turns
+pub mod Verdicts

@@ -13,7 +13,8 @@ use Rattle.mesh.specs.declared.Side.{Side}
 use Rattle.mesh.specs.Reading.{Draft, empty, judged, out-of-order, bad-vertex, bad-curve, third-face, too-many}
 use Rattle.mesh.specs.Records.{Record, face, curve}
 use Rattle.mesh.specs.Shape.{edges, edge-of, occurs}
-use Rattle.base.specs.Drafts.{parts, Passed}
+use Rattle.base.specs.Drafts.{Passed}
+use Rattle.base.specs.Faces.{parts}
 
 module _ (n : ℕ) (d : Draft) (r : Record) where
   pub row-order : out-of-order d r ≡ true → judged n d r ≡ Some (OutOfOrder n)

@@ -13,7 +13,8 @@ use Rattle.mesh.specs.Shape.{onward, around, sides, edges, firsts, with-side}
 use Rattle.mesh.proofs.Edges.{folded-append}
 use Rattle.mesh.proofs.Passing.{sides-append}
 use Rattle.base.specs.declared.draft.Draft.{Draft}
-use Rattle.base.specs.Drafts.{parts, drafted, Tied}
+use Rattle.base.specs.Drafts.{drafted, Tied}
+use Rattle.base.specs.Faces.{parts}
 
 tails-onward : (first c : ℕ) (cs : List ℕ) → map (λ (s : Side). s .tail) (onward first c cs) ≡ c ∷ cs
 tails-onward first c [] = refl

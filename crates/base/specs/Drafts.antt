@@ -1,10 +1,10 @@
 -- What the tables of a draft stand for.
 use mathlib.Core.Bool.{Bool, false}
-use mathlib.Core.List.{List, [], _∷_, map}
+use mathlib.Core.List.{List}
 use mathlib.Core.Path.{_≡_}
 use Prim.Native.Nat.{ℕ}
 use lib.Dec.{leb}
-use lib.ListN.{length, take, drop}
+use lib.ListN.{length}
 use Rattle.std.specs.Of.Vec.{vec-items}
 use Rattle.std.specs.declared.option.Option.{Option}
 use Rattle.std.specs.declared.option.Option.the-variants.{Some, None}
@@ -19,12 +19,8 @@ use Rattle.mesh.specs.Reading as reading
 use Rattle.mesh.specs.Reading.{judged, added, out-of-order, bad-vertex, third-face}
 use Rattle.mesh.specs.Records.{Record, face}
 use Rattle.mesh.specs.Shape.{sides, edges, edge-of}
+use Rattle.base.specs.Faces.{parts}
 use Rattle.base.specs.declared.draft.Draft.{Draft}
-
--- the faces whose sides stand in a row, by their numbers of corners: a corner is the tail of its side
-abbrev pub parts : List ℕ → List Side → List (List ℕ)
-parts [] ss = []
-parts (k ∷ ks) ss = map (λ s. s .tail) (take k ss) ∷ parts ks (drop k ss)
 
 abbrev pub drafted : Draft → reading.Draft
 drafted m = record { dims = vec-items (m .dims); faces = parts (vec-items (m .sizes)) (vec-items (m .sides)); named = vec-items (m .named) }

@@ -1,2 +1,4 @@
+pub mod Bases
 pub mod Drafts
+pub mod Faces
 pub mod Views

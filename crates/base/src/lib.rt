@@ -1,4 +1,5 @@
 // A base: the coarsest control mesh, read from its records, judged, and written back.
+mod base;
 mod corners;
 mod draft;
 mod reading;
@@ -6,5 +7,6 @@ mod record;
 mod rules;
 mod sides;
 
+pub use base::Base;
 pub use record::Record;
 pub use record::next_record;
