@@ -1,8 +1,11 @@
 pub mod Heads
 pub mod Judging
+pub mod Readings
 pub mod Rows
+pub mod Starting
 pub mod Steps
 pub mod Tables
 pub mod Tests
 pub mod Turns
 pub mod Verdicts
+pub mod Written

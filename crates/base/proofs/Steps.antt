@@ -8,16 +8,22 @@ use lib.Dec.{ltb}
 use lib.ListN.{length, getD, take, drop}
 use Rattle.std.specs.Options.{isSome}
 use Rattle.std.specs.shelf.Lists.{folded}
-use Rattle.std.proofs.shelf.Lists.{at-drop-more, drop-more, drop-all, take-rest}
+use Rattle.std.proofs.shelf.Lists.{append-nil, drop-more, drop-all, take-rest}
 use Rattle.std.proofs.shelf.Tests.{cond-true, cond-false, and-left, and-right}
 use Rattle.mesh.specs.declared.Side.{Side}
 use Rattle.mesh.specs.Records.{numbers}
 use Rattle.mesh.specs.Rules.{proper, all-below, distinct}
 use Rattle.mesh.specs.Shape.{nowhere, onward, around, occurs, edge-of, with-side, marked}
 
--- what is left once x is pushed stands behind x
-pub pushed : {A : Type 0} (before after rest rest′ : List A) (x : A) → after ≡ before ++ x ∷ [] → rest ≡ x ∷ rest′ → after ++ rest′ ≡ before ++ rest
-pushed before after rest rest′ x e f = ap (λ l. l ++ rest′) e ∙ append-assoc before (x ∷ []) rest′ ∙ ap (λ l. before ++ l) (sym f)
+-- what is left once a part is appended stands behind that part
+pub appended : {A : Type 0} (before after rest rest′ part : List A) → after ≡ before ++ part → rest ≡ part ++ rest′ → after ++ rest′ ≡ before ++ rest
+appended before after rest rest′ part e f = ap (λ l. l ++ rest′) e ∙ append-assoc before part rest′ ∙ ap (λ l. before ++ l) (sym f)
+
+pub twice-appended : {A : Type 0} (a b c p q : List A) → b ≡ a ++ p → c ≡ b ++ q → c ≡ a ++ (p ++ q)
+twice-appended a b c p q e f = f ∙ ap (λ l. l ++ q) e ∙ append-assoc a p q
+
+pub all-appended : {A : Type 0} (out rest whole : List A) → rest ≡ [] → out ++ rest ≡ whole → out ≡ whole
+all-appended out rest whole e f = sym (append-nil out) ∙ ap (λ l. out ++ l) (sym e) ∙ f
 
 pub numbers-front : (bs : List ℕ) → 2 ≤ length bs → numbers bs ≡ (getD bs 0 0 + 256 * getD bs 1 0) ∷ numbers (take (length bs - 2) (drop 2 bs))
 numbers-front [] l = absurd (omega arith)

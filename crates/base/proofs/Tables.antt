@@ -10,8 +10,8 @@ use Rattle.std.proofs.shelf.Lists.{append-nil, length-append, length-drop, leng
 use Rattle.std.proofs.shelf.Sums.{sumBy-cons, sumBy-push}
 use Rattle.mesh.specs.declared.Side.{Side}
 use Rattle.mesh.specs.Shape.{onward, around, sides, edges, firsts, with-side}
-use Rattle.mesh.proofs.Edges.{folded-append}
-use Rattle.mesh.proofs.Passing.{sides-append}
+use Rattle.mesh.proofs.Faces.{sides-append}
+use Rattle.mesh.proofs.Lists.{folded-append}
 use Rattle.base.specs.declared.draft.Draft.{Draft}
 use Rattle.base.specs.Drafts.{drafted, Tied}
 use Rattle.base.specs.Faces.{parts}

@@ -1,70 +1,33 @@
 -- What the records keep, from the first to the end record. Assumes nothing.
-use mathlib.Core.Bool.{Bool, true, false, not, cond}
-use mathlib.Core.List.{List, [], _∷_, _++_, map, append-assoc}
+use mathlib.Core.Bool.{true, false, not}
+use mathlib.Core.List.{List, [], _∷_, _++_, map}
 use mathlib.Core.Path.{_≡_, refl, sym, ap, subst, _∙_}
 use Prim.Native.Nat.{ℕ, zero, suc, _+_, _≤_}
 use native.Mathlib.Omega.{arith}
-use lib.Dec.{eqb, leb, ltb}
+use lib.Dec.{leb, ltb}
 use lib.ListN.{length}
 use Rattle.std.proofs.shelf.Elements.{all-push}
-use Rattle.std.proofs.shelf.Lists.{joined-more, length-push, length-map, map-push, nil-from-length}
-use Rattle.std.proofs.shelf.Tests.{ltb-false, leb-false, eqb-false, ne-eqb, and-parts, and-from, or-parts, or-from, not-true, not-false, not-from-false}
+use Rattle.std.proofs.shelf.Lists.{length-push, length-map, map-push, nil-from-length}
+use Rattle.std.proofs.shelf.Tests.{ltb-false, leb-false, and-parts, or-parts, not-false}
 use Rattle.std.specs.Joined.{joined}
 use Rattle.std.specs.Options.{isSome}
-use Rattle.std.specs.declared.option.Option.{Option}
-use Rattle.std.specs.declared.option.Option.the-variants.{Some, None}
 use Rattle.std.specs.declared.result.Result.{Result}
-use Rattle.std.specs.declared.result.Result.the-variants.{Ok, Err}
+use Rattle.std.specs.declared.result.Result.the-variants.{Ok}
 use Rattle.std.specs.shelf.Lists.{All}
 use Rattle.refusal.specs.declared.Refusal.{Refusal}
-use Rattle.refusal.specs.declared.Refusal.the-variants.{OutOfOrder, BadVertex, BadCurve, ThirdFace, TooMany}
 use Rattle.mesh.specs.declared.Side.{Side}
 use Rattle.mesh.specs.Shape.{firsts, edges, edge-of, uses, occurs}
 use Rattle.mesh.specs.Rules.{Polygon, distinct, all-below, proper}
 use Rattle.mesh.specs.Records.{Record, vertex, face, curve, end, bytes-of, next}
-use Rattle.mesh.specs.Reading.{Draft, blank, empty, out-of-order, bad-vertex, bad-curve, third-face, too-many, judged, added, onto, unless, then, records}
-use Rattle.mesh.proofs.Spelled.{Sized, cond-else, next-spelled}
-use Rattle.mesh.proofs.Rounds.{uses-kept}
-use Rattle.mesh.proofs.Named.{number-in}
-
--- a record that no row refuses
-record Passed (d : Draft) (r : Record) : Type 0 where
-  ordered : out-of-order d r ≡ false
-  vertices : bad-vertex d r ≡ false
-  curves : bad-curve d r ≡ false
-  faces : third-face d r ≡ false
-  room : too-many d r ≡ false
-
-passed : (n : ℕ) (d : Draft) (r : Record) → judged n d r ≡ None → Passed d r
-passed n d r e =
-    let a = row (out-of-order d r) (OutOfOrder n) _ e in
-    let b = row (bad-vertex d r) (BadVertex n) _ (a .1) in
-    let c = row (bad-curve d r) (BadCurve n) _ (b .1) in
-    let f = row (third-face d r) (ThirdFace n) _ (c .1) in
-    let m = row (too-many d r) (TooMany n) None (f .1) in
-    record { ordered = a .0; vertices = b .0; curves = c .0; faces = f .0; room = m .0 }
-  where
-    row : (b : Bool) (x : Refusal) (o : Option Refusal) → cond b (Some x) o ≡ None → (b ≡ false) × (o ≡ None)
-    row b x o = cond-else b (Some x) o None (λ q. let z : _≡_ {A = ℕ} 0 1 = cc in omega arith)
-
-nil-from-empty : {A : Type 0} (xs : List A) → not (empty xs) ≡ false → xs ≡ []
-nil-from-empty [] e = refl
-nil-from-empty (x ∷ xs) e = let z : _≡_ {A = ℕ} 0 1 = cc in absurd (omega arith)
-
-joined-on : {X A : Type 0} (f : X → List A) (xs : List X) (x : X) (rest : List A) → joined f xs ++ (f x ++ rest) ≡ joined f (xs ++ x ∷ []) ++ rest
-joined-on f xs x rest = sym (append-assoc (joined f xs) (f x) rest) ∙ ap (λ front. front ++ rest) (joined-more f [] xs x)
-
-occurs-push : (v x : ℕ) (xs : List ℕ) → occurs v xs ≡ false → eqb x v ≡ false → occurs v (xs ++ x ∷ []) ≡ false
-occurs-push v x [] none out = or-from (eqb x v) false out refl
-occurs-push v x (y ∷ ys) none out = let both = or-parts (eqb y v) (occurs v ys) none in or-from (eqb y v) (occurs v (ys ++ x ∷ [])) (both .0) (occurs-push v x ys (both .1) out)
-
-distinct-push : (xs : List ℕ) (x : ℕ) → distinct xs ≡ true → occurs x xs ≡ false → distinct (xs ++ x ∷ []) ≡ true
-distinct-push [] x once new = refl
-distinct-push (y ∷ ys) x once new =
-    let parts = and-parts (not (occurs y ys)) (distinct ys) once in
-    let away = or-parts (eqb y x) (occurs x ys) new in
-    let turned : eqb x y ≡ false = ne-eqb x y (λ e. eqb-false y x (away .0) (sym e)) in
-    and-from (not (occurs y (ys ++ x ∷ []))) (distinct (ys ++ x ∷ [])) (not-from-false (occurs y (ys ++ x ∷ [])) (occurs-push y x ys (not-true (occurs y ys) (parts .0)) turned)) (distinct-push ys x (parts .1) (away .1))
+use Rattle.mesh.specs.Reading.{Draft, blank, empty, judged, added, onto, records}
+use Rattle.mesh.proofs.Lists.{nil-from-empty, joined-on}
+use Rattle.mesh.proofs.Occurs.{distinct-push}
+use Rattle.mesh.proofs.Results.{then-ok, unless-ok}
+use Rattle.mesh.proofs.Edges.{number}
+use Rattle.mesh.proofs.Faces.{uses-kept}
+use Rattle.mesh.proofs.Bytes.{Sized}
+use Rattle.mesh.proofs.Drafts.{Passed, passed-from-none}
+use Rattle.mesh.proofs.Spelled.{next-spelled}
 
 -- the draft d was read from the front of whole, and bs is left
 pub record Good (whole : List ℕ) (d : Draft) (bs : List ℕ) : Type 0 where
@@ -77,22 +40,22 @@ pub record Good (whole : List ℕ) (d : Draft) (bs : List ℕ) : Type 0 where
   pub most-faces : length (d .faces) ≤ 256
   pub most-edges : length (edges (d .faces)) ≤ 512
   pub two-faces : (t : Side) → uses (d .faces) t ≤ 2
-  pub named : d .named ≡ map (number-in (edges (d .faces))) curves
+  pub named : d .named ≡ map (number (edges (d .faces))) curves
   pub known : All (λ c. isSome (edge-of (edges (d .faces)) c) ≡ true) curves
   pub once : distinct (d .named) ≡ true
 
 module _ (whole : List ℕ) (d : Draft) (bs : List ℕ) where
   no-curves : (rest : List ℕ) (g : Good whole d rest) → d .named ≡ [] → g .curves ≡ []
-  no-curves rest g none = nil-from-length (g .curves) (sym (length-map (g .curves) (number-in (edges (d .faces)))) ∙ (ap length (sym (g .named)) ∙ ap length none))
+  no-curves rest g none = nil-from-length (g .curves) (sym (length-map (g .curves) (number (edges (d .faces)))) ∙ (ap length (sym (g .named)) ∙ ap length none))
 
   vertex-kept : (dim : ℕ) → Good whole d (bytes-of (vertex dim) ++ bs) → Passed d (vertex dim) → Good whole (added d (vertex dim)) bs
   vertex-kept dim g p =
-      let first = or-parts (not (empty (d .faces))) (not (empty (d .named))) (p .ordered) in
+      let first = or-parts (not (empty (d .faces))) (not (empty (d .named))) (p .in-order) in
       let f = nil-from-empty (d .faces) (first .0) in
       let c = no-curves (bytes-of (vertex dim) ++ bs) g (nil-from-empty (d .named) (first .1)) in
       let longer = length-push (d .dims) dim in
-      let full = leb-false 256 (length (d .dims)) (p .room) in
-      let small = ltb-false 2 dim (p .vertices) in
+      let full = leb-false 256 (length (d .dims)) (p .few) in
+      let small = ltb-false 2 dim (p .good-vertex) in
       record {
         curves = g .curves;
         spelled = g .spelled ∙ rw (f, c) (joined-on (λ x. bytes-of (vertex x)) (d .dims) dim bs);
@@ -109,11 +72,11 @@ module _ (whole : List ℕ) (d : Draft) (bs : List ℕ) where
 
   face-kept : (cs : List ℕ) → Good whole d (bytes-of (face cs) ++ bs) → Sized (face cs) → Passed d (face cs) → Good whole (added d (face cs)) bs
   face-kept cs g size p =
-      let n = nil-from-empty (d .named) (p .ordered) in
+      let n = nil-from-empty (d .named) (p .in-order) in
       let c = no-curves (bytes-of (face cs) ++ bs) g n in
-      let fine = not-false (proper (length (d .dims)) cs) (p .vertices) in
+      let fine = not-false (proper (length (d .dims)) cs) (p .good-vertex) in
       let once = and-parts (all-below (length (d .dims)) cs) (distinct cs) fine .1 in
-      let room = or-parts (leb 256 (length (d .faces))) (ltb 512 (length (edges (d .faces ++ cs ∷ [])))) (p .room) in
+      let room = or-parts (leb 256 (length (d .faces))) (ltb 512 (length (edges (d .faces ++ cs ∷ [])))) (p .few) in
       let longer = length-push (d .faces) cs in
       let full = leb-false 256 (length (d .faces)) (room .0) in
       record {
@@ -124,7 +87,7 @@ module _ (whole : List ℕ) (d : Draft) (bs : List ℕ) where
         polygons = all-push (Polygon (length (d .dims))) (d .faces) cs (g .polygons) (record { least = size .0; most = size .1; proper = fine });
         most-faces = omega arith;
         most-edges = ltb-false 512 (length (edges (d .faces ++ cs ∷ []))) (room .1);
-        two-faces = uses-kept (d .faces) cs (g .two-faces) (size .0) once (p .faces);
+        two-faces = uses-kept (d .faces) cs (g .two-faces) (size .0) once (p .room-at-edges);
         named = rw c n;
         known = rw c tt;
         once = g .once;
@@ -132,7 +95,7 @@ module _ (whole : List ℕ) (d : Draft) (bs : List ℕ) where
 
   curve-kept : (c : Side) → Good whole d (bytes-of (curve c) ++ bs) → Passed d (curve c) → Good whole (added d (curve c)) bs
   curve-kept c g p =
-      let fresh = or-parts (not (isSome (edge-of (edges (d .faces)) c))) (occurs (number-in (edges (d .faces)) c) (d .named)) (p .curves) in
+      let fresh = or-parts (not (isSome (edge-of (edges (d .faces)) c))) (occurs (number (edges (d .faces)) c) (d .named)) (p .good-curve) in
       record {
         curves = g .curves ++ c ∷ [];
         spelled = g .spelled ∙ ap (λ rest. joined (λ x. bytes-of (vertex x)) (d .dims) ++ (joined (λ f. bytes-of (face f)) (d .faces) ++ rest)) (joined-on (λ c′. bytes-of (curve c′)) (g .curves) c bs);
@@ -142,19 +105,10 @@ module _ (whole : List ℕ) (d : Draft) (bs : List ℕ) where
         most-faces = g .most-faces;
         most-edges = g .most-edges;
         two-faces = g .two-faces;
-        named = ap (λ ns. ns ++ number-in (edges (d .faces)) c ∷ []) (g .named) ∙ sym (map-push (number-in (edges (d .faces))) (g .curves) c);
+        named = ap (λ ns. ns ++ number (edges (d .faces)) c ∷ []) (g .named) ∙ sym (map-push (number (edges (d .faces))) (g .curves) c);
         known = all-push (λ c′. isSome (edge-of (edges (d .faces)) c′) ≡ true) (g .curves) c (g .known) (not-false (isSome (edge-of (edges (d .faces)) c)) (fresh .0));
-        once = distinct-push (d .named) (number-in (edges (d .faces)) c) (g .once) (fresh .1);
+        once = distinct-push (d .named) (number (edges (d .faces)) c) (g .once) (fresh .1);
       }
-
--- a reading that gives something has no step that refuses
-pub then-ok : {A B : Type 0} (r : Result A Refusal) (f : A → Result B Refusal) (y : B) → then r f ≡ Ok y → (x : A) × (r ≡ Ok x) × (f x ≡ Ok y)
-then-ok (Ok x) f y e = (x, refl, e)
-then-ok (Err x) f y e = let z : _≡_ {A = ℕ} 0 1 = cc in absurd (omega arith)
-
-pub unless-ok : {A : Type 0} (o : Option Refusal) (r : Result A Refusal) (y : A) → unless o r ≡ Ok y → (o ≡ None) × (r ≡ Ok y)
-unless-ok None r y e = (refl, e)
-unless-ok (Some x) r y e = let z : _≡_ {A = ℕ} 0 1 = cc in absurd (omega arith)
 
 -- the draft q .0 was read from the front of whole, up to the end record, and q .1 is left
 abbrev pub Ended : List ℕ → Draft × List ℕ → Type 0
@@ -165,16 +119,16 @@ module _ (whole : List ℕ) where
   one-more d (vertex dim) rest more q g size p e go = go (vertex-kept whole d rest dim g p) e
   one-more d (face cs) rest more q g size p e go = go (face-kept whole d rest cs g size p) e
   one-more d (curve c) rest more q g size p e go = go (curve-kept whole d rest c g p) e
-  one-more d end rest more q g size p e go = let is : (d, rest) ≡ q = cc in subst (Ended whole) is (g, p .room)
+  one-more d end rest more q g size p e go = let is : (d, rest) ≡ q = cc in subst (Ended whole) is (g, p .few)
 
   pub records-ended : (turns n : ℕ) (d : Draft) (bs : List ℕ) (q : Draft × List ℕ) → Good whole d bs → records turns n d bs ≡ Ok q → Ended whole q
   unfolding records
-  records-ended zero n d bs q g e = let z : _≡_ {A = ℕ} 0 1 = cc in absurd (omega arith)
+  records-ended zero n d bs q g e = absurd (grind arith)
   records-ended (suc turns) n d bs q g e =
       let t = then-ok (next n bs) _ q e in
       let u = unless-ok (judged n d (t .0 .0)) _ q (t .2) in
-      let p = passed n d (t .0 .0) (u .0) in
-      let from = next-spelled n d bs (t .0) (g .most-vertices) (t .1) (p .vertices) in
+      let p = passed-from-none n d (t .0 .0) (u .0) in
+      let from = next-spelled n d bs (t .0) (g .most-vertices) (t .1) (p .good-vertex) in
       one-more d (t .0 .0) (t .0 .1) _ q (subst (Good whole d) (from .0) g) (from .1) p (u .1) (λ good more. records-ended turns (n + 1) (added d (t .0 .0)) (t .0 .1) q good more)
 
 pub blank-good : (bs : List ℕ) → Good bs blank bs

@@ -5,7 +5,6 @@ use mathlib.Core.Path.{_≡_, refl, sym, ap, subst, _∙_}
 use Prim.Native.Nat.{ℕ, zero, suc, _<_, _≤_}
 use native.Mathlib.Omega.{arith}
 use Rattle.std.proofs.shelf.Tests.{cases-lt, cases-bool, cond-true, cond-false}
-use Rattle.std.specs.declared.option.Option.{Option}
 use Rattle.std.specs.declared.option.Option.the-variants.{Some, None}
 use Rattle.mesh.specs.Lowest.{lowest}
 
@@ -22,8 +21,8 @@ module _ (p : ℕ → Bool) where
       ⊎-elim
       (λ (low : k < n). rw (lowest-some n k low t h))
       (λ (high : n ≤ k).
-          let e : k ≡ n = omega arith in
-          rw (lowest-none n (λ j m. h j (omega arith))) (cond-true (p n) (Some n) None (subst (λ m. p m ≡ true) e t) ∙ ap Some (sym e)))
+      let e : k ≡ n = omega arith in
+      rw (lowest-none n (λ j m. h j (omega arith))) (cond-true (p n) (Some n) None (subst (λ m. p m ≡ true) e t) ∙ ap Some (sym e)))
       (cases-lt k n)
 
   -- k is the lowest below n that passes
@@ -35,10 +34,10 @@ module _ (p : ℕ → Bool) where
   either (suc n) =
       ⊎-elim
       (λ none.
-          ⊎-elim
-          (λ yes′. inr (n, (omega arith, yes′, none)))
-          (λ no′. inl (λ j l. ⊎-elim (none j) (λ (high : n ≤ j). subst (λ m. p m ≡ false) (omega arith) no′) (cases-lt j n)))
-          (cases-bool (p n)))
+      ⊎-elim
+      (λ yes′. inr (n, (omega arith, yes′, none)))
+      (λ no′. inl (λ j l. ⊎-elim (none j) (λ (high : n ≤ j). subst (λ m. p m ≡ false) (omega arith) no′) (cases-lt j n)))
+      (cases-bool (p n)))
       (λ some. inr (some .0, (omega (arith, some .1 .0), some .1 .1, some .1 .2)))
       (either n)
 
@@ -47,20 +46,18 @@ module _ (p : ℕ → Bool) where
       ⊎-elim
       (λ none. none)
       (λ some.
-          let at = lowest-some n (some .0) (some .1 .0) (some .1 .1) (some .1 .2) in
-          let z : _≡_ {A = ℕ} 0 1 = cc in
-          absurd (omega arith))
+      let at = lowest-some n (some .0) (some .1 .0) (some .1 .1) (some .1 .2) in
+      absurd (grind arith))
       (either n)
 
   pub lowest-found : (n k : ℕ) → lowest p n ≡ Some k → Found n k
   lowest-found n k e =
       ⊎-elim
       (λ none.
-          let at = lowest-none n none in
-          let z : _≡_ {A = ℕ} 0 1 = cc in
-          absurd (omega arith))
+      let at = lowest-none n none in
+      absurd (grind arith))
       (λ some.
-          let at = lowest-some n (some .0) (some .1 .0) (some .1 .1) (some .1 .2) in
-          let same : some .0 ≡ k = cc in
-          subst (Found n) same (some .1))
+      let at = lowest-some n (some .0) (some .1 .0) (some .1 .1) (some .1 .2) in
+      let same : some .0 ≡ k = cc in
+      subst (Found n) same (some .1))
       (either n)

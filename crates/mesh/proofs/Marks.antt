@@ -1,25 +1,36 @@
--- The curve records of a shape, and the marks that they give back. Assumes nothing.
+-- The marks of edges: the edges that are marked, and the numbers that these have. Assumes nothing.
 use mathlib.Core.Bool.{Bool, true, false}
-use mathlib.Core.List.{List, [], _∷_, _++_, map}
-use mathlib.Core.Path.{_≡_, refl, sym, ap, ap₂, _∙_}
-use Prim.Native.Nat.{ℕ, zero, suc, _+_, _<_, _≤_}
+use mathlib.Core.List.{List, [], _∷_, map}
+use mathlib.Core.Path.{_≡_, refl, sym, ap, ap₂}
+use Prim.Native.Nat.{ℕ, zero, suc, _+_, _<_}
 use native.Mathlib.Omega.{arith}
 use lib.Dec.{eqb}
 use lib.ListN.{length, getD, drop}
 use Rattle.std.proofs.shelf.Counted.{fill-by-all}
-use Rattle.std.proofs.shelf.Elements.{all-getD}
 use Rattle.std.proofs.shelf.Lists.{drop-all, drop-more}
-use Rattle.std.proofs.shelf.Tests.{or-from, or-left, eq-eqb, ne-eqb, not-from-true}
+use Rattle.std.proofs.shelf.Tests.{true≢false, or-from, or-left, eq-eqb, ne-eqb}
 use Rattle.std.specs.Iters.{counting}
 use Rattle.std.specs.Options.{valueOr}
-use Rattle.std.specs.declared.option.Option.the-variants.{Some}
 use Rattle.std.specs.shelf.Lists.{All}
-use Rattle.mesh.specs.Shape.{nowhere, sides, edges, edge-of, marked, occurs}
-use Rattle.mesh.specs.Records.{curve}
-use Rattle.mesh.proofs.Lists.{any-append}
-use Rattle.mesh.proofs.Edges.{edge-of-itself, firsts-apart}
-use Rattle.mesh.proofs.Ends.{Ends}
-use Rattle.mesh.proofs.Drafts.{Accepted, Passes, number}
+use Rattle.mesh.specs.declared.Side.{Side}
+use Rattle.mesh.specs.Shape.{nowhere, sides, edges, marked, occurs}
+use Rattle.mesh.proofs.Edges.{number, firsts-itself}
+
+-- what holds of each edge whose mark is set holds of the marked edges
+pub all-marked : (P : Side → Type 0) (es : List Side) (ms : List Bool) → ((k : ℕ) → k < length es → getD ms k false ≡ true → P (getD es k nowhere)) → All P (marked es ms)
+all-marked P [] ms h = tt
+all-marked P (e ∷ es) [] h = tt
+all-marked P (e ∷ es) (true ∷ ms) h = (h 0 (omega arith) refl, all-marked P es ms (λ k l t. h (suc k) (omega arith) t))
+all-marked P (e ∷ es) (false ∷ ms) h = all-marked P es ms (λ k l t. h (suc k) (omega arith) t)
+
+-- an edge whose mark is set is one of the marked edges
+pub marked-at : (es : List Side) (ms : List Bool) (k : ℕ) → k < length es → getD ms k false ≡ true → (j : ℕ) × (j < length (marked es ms)) × (getD (marked es ms) j nowhere ≡ getD es k nowhere)
+marked-at [] ms k l t = absurd (omega arith)
+marked-at (e ∷ es) [] k l t = absurd (true≢false (sym t))
+marked-at (e ∷ es) (true ∷ ms) zero l t = (0, omega arith, refl)
+marked-at (e ∷ es) (true ∷ ms) (suc k) l t = let at = marked-at es ms k (omega arith) t in (suc (at .0), omega arith, at .2)
+marked-at (e ∷ es) (false ∷ ms) zero l t = absurd (true≢false (sym t))
+marked-at (e ∷ es) (false ∷ ms) (suc k) l t = marked-at es ms k (omega arith) t
 
 -- the numbers of the marks that are set, the first mark's being k
 abbrev pub numbered : ℕ → List Bool → List ℕ
@@ -41,35 +52,11 @@ occurs-numbered k e (true ∷ ms) (suc j) p = rw (ne-eqb k e (omega arith)) (occ
 occurs-numbered k e (false ∷ ms) (suc j) p = occurs-numbered (k + 1) e ms j (omega arith)
 
 module _ (faces : List (List ℕ)) where
-  pub edge-itself : (i : ℕ) → i < length (edges faces) → edge-of (edges faces) (getD (edges faces) i nowhere) ≡ Some i
-  edge-itself = edge-of-itself (edges faces) (firsts-apart (sides faces))
-
   -- marks for the edges from k on
-  pub number-marked : (ms : List Bool) (k : ℕ) → k + length ms ≡ length (edges faces) → map (number faces) (marked (drop k (edges faces)) ms) ≡ numbered k ms
+  pub number-marked : (ms : List Bool) (k : ℕ) → k + length ms ≡ length (edges faces) → map (number (edges faces)) (marked (drop k (edges faces)) ms) ≡ numbered k ms
   number-marked [] k p = rw (drop-all k (edges faces) (omega arith))
-  number-marked (true ∷ ms) k p = rw (drop-more (edges faces) k nowhere (omega arith)) (ap₂ _∷_ (ap (λ o. valueOr o 0) (edge-itself k (omega arith))) (number-marked ms (k + 1) (omega arith)))
+  number-marked (true ∷ ms) k p = rw (drop-more (edges faces) k nowhere (omega arith)) (ap₂ _∷_ (ap (λ o. valueOr o 0) (firsts-itself (sides faces) k (omega arith))) (number-marked ms (k + 1) (omega arith)))
   number-marked (false ∷ ms) k p = rw (drop-more (edges faces) k nowhere (omega arith)) (number-marked ms (k + 1) (omega arith))
 
-  pub marks-again : (ms : List Bool) → length ms ≡ length (edges faces) → map (λ e. occurs e (map (number faces) (marked (edges faces) ms))) (counting 0 (length (edges faces))) ≡ ms
+  pub marks-again : (ms : List Bool) → length ms ≡ length (edges faces) → map (λ e. occurs e (map (number (edges faces)) (marked (edges faces) ms))) (counting 0 (length (edges faces))) ≡ ms
   marks-again ms p = rw (number-marked ms 0 (omega arith)) (sym (fill-by-all (λ e. occurs e (numbered 0 ms)) ms (length (edges faces)) false p (λ j l. sym (occurs-numbered 0 j ms j (omega arith)))))
-
-  accepted-curve : (dims named : List ℕ) → All (Ends (length dims)) (edges faces) → (i : ℕ) → i < length (edges faces) → occurs i named ≡ false → Accepted (record { dims = dims; faces = faces; named = named }) (curve (getD (edges faces) i nowhere))
-  accepted-curve dims named ends i l new =
-      record {
-        in-order = refl;
-        good-vertex = not-from-true _ (all-getD (Ends (length dims)) (edges faces) i nowhere l ends);
-        good-curve = rw (edge-itself i l) new;
-        room-at-edges = refl;
-        few = refl;
-      }
-
-  -- the records of the edges from k on, where those before k are named
-  pub passes-curves : (dims : List ℕ) → All (Ends (length dims)) (edges faces) → (ms : List Bool) (k : ℕ) (named : List ℕ) → k + length ms ≡ length (edges faces) → ((i : ℕ) → k ≤ i → occurs i named ≡ false) → Passes (record { dims = dims; faces = faces; named = named }) (map curve (marked (drop k (edges faces)) ms))
-  passes-curves dims ends [] k named p new = rw (drop-all k (edges faces) (omega arith)) tt
-  passes-curves dims ends (true ∷ ms) k named p new =
-      rw (drop-more (edges faces) k nowhere (omega arith)) (
-        tt,
-        accepted-curve dims named ends k (omega arith) (new k (omega arith)),
-        rw (edge-itself k (omega arith)) (passes-curves dims ends ms (k + 1) (named ++ k ∷ []) (omega arith) (λ i l. any-append (λ x. eqb x i) named (k ∷ []) ∙ or-from (occurs i named) (occurs i (k ∷ [])) (new i (omega arith)) (or-from (eqb k i) false (ne-eqb k i (omega arith)) refl))),
-      )
-  passes-curves dims ends (false ∷ ms) k named p new = rw (drop-more (edges faces) k nowhere (omega arith)) (passes-curves dims ends ms (k + 1) named (omega arith) (λ i l. new i (omega arith)))

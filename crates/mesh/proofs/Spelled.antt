@@ -6,9 +6,10 @@ use Prim.Native.Nat.{ℕ, zero, suc, _+_, _*_, _/_, _%_, _<_, _≤_}
 use native.Mathlib.Omega.{arith}
 use lib.Dec.{ltb}
 use lib.ListN.{length, getD, take, drop}
+use Rattle.std.proofs.shelf.Elements.{all-weaker}
 use Rattle.std.proofs.shelf.Lists.{nil-from-length, take-append-drop, length-take-le}
-use Rattle.std.proofs.shelf.Tests.{ltb-true, ltb-false, and-parts, not-false}
-use Rattle.std.proofs.shelf.Ways.{tells}
+use Rattle.std.proofs.shelf.Tests.{ltb-false, and-parts, not-false}
+use Rattle.std.proofs.shelf.Ways.{decides-ltb, decides-by-and}
 use Rattle.std.specs.Joined.{joined}
 use Rattle.std.specs.shelf.Lists.{All}
 use Rattle.std.specs.declared.result.Result.{Result}
@@ -16,13 +17,10 @@ use Rattle.std.specs.declared.result.Result.the-variants.{Ok, Err}
 use Rattle.refusal.specs.declared.Refusal.{Refusal}
 use Rattle.refusal.specs.declared.Refusal.the-variants.{Truncated, UnknownKind}
 use Rattle.mesh.specs.Rules.{all-below, distinct, proper}
-use Rattle.mesh.specs.Records.{Record, vertex, face, curve, end, two-bytes, numbers, bytes-of, body-length, record-of, next}
+use Rattle.mesh.specs.Records.{Record, face, two-bytes, numbers, bytes-of, body-length, record-of, next}
 use Rattle.mesh.specs.Reading.{Draft, bad-vertex}
-
--- a choice that is not its first way is its second
-pub cond-else : {A : Type 0} (b : Bool) (x y z : A) → (x ≡ z → ⊥) → cond b x y ≡ z → (b ≡ false) × (y ≡ z)
-cond-else true x y z apart e = absurd (apart e)
-cond-else false x y z apart e = (refl, e)
+use Rattle.mesh.proofs.Results.{cond-else}
+use Rattle.mesh.proofs.Bytes.{body-length-face, record-of-face, Sized}
 
 -- a number below 256 has one spelling: its low byte, then 0
 two-bytes-back : (low high : ℕ) → low + 256 * high < 256 → two-bytes (low + 256 * high) ≡ low ∷ high ∷ []
@@ -42,18 +40,9 @@ length-numbers (low ∷ []) even = absurd (omega arith)
 length-numbers (low ∷ high ∷ bs) even = let l = length-numbers bs (omega arith) in omega arith
 
 pub below-256 : (vertices : ℕ) → vertices ≤ 256 → (cs : List ℕ) → all-below vertices cs ≡ true → All (λ x. x < 256) cs
-below-256 vertices few [] t = tt
-below-256 vertices few (c ∷ cs) t =
-    let both = and-parts (ltb c vertices) (all-below vertices cs) t in
-    let low = ltb-true c vertices (both .0) in
-    (omega arith, below-256 vertices few cs (both .1))
-
--- a face that was read has 3 to 8 corners
-abbrev pub Sized : Record → Type 0
-Sized (vertex dim) = Unit {0}
-Sized (face cs) = (3 ≤ length cs) × (length cs ≤ 8)
-Sized (curve s) = Unit {0}
-Sized end = Unit {0}
+below-256 vertices few cs t =
+    let all = decides-by-and (λ c. ltb c vertices) (λ c. c < vertices) (all-below vertices) (λ c. decides-ltb c vertices) refl (λ _ _. refl) cs .0 t in
+    all-weaker (λ c. c < vertices) (λ c. c < 256) (λ c l. omega arith) cs all
 
 -- a record taken apart into its kind and its body
 record Taken (bs : List ℕ) (p : Record × List ℕ) : Type 0 where
@@ -65,7 +54,7 @@ record Taken (bs : List ℕ) (p : Record × List ℕ) : Type 0 where
   from : bs ≡ kind ∷ (body ++ p .1)
 
 taken : (n : ℕ) (bs : List ℕ) (p : Record × List ℕ) → next n bs ≡ Ok p → Taken bs p
-taken n [] p e = let z : _≡_ {A = ℕ} 0 1 = cc in absurd (omega arith)
+taken n [] p e = absurd (grind arith)
 taken n (kind ∷ rest) p e =
     let size = body-length kind in
     let past = passes (ltb 8 kind) (UnknownKind n) _ e in
@@ -81,11 +70,7 @@ taken n (kind ∷ rest) p e =
     }
   where
     passes : (b : Bool) (x : Refusal) (r : Result (Record × List ℕ) Refusal) → cond b (Err x) r ≡ Ok p → (b ≡ false) × (r ≡ Ok p)
-    passes b x r = cond-else b (Err x) r (Ok p) (λ q. let z : _≡_ {A = ℕ} 0 1 = cc in omega arith)
-
--- a kind above 2 is a face's
-face-kind : (k : ℕ) (body : List ℕ) → (record-of (suc (suc (suc k))) body ≡ face (numbers body)) × (body-length (suc (suc (suc k))) ≡ 2 * suc (suc (suc k)))
-face-kind k body = (grind (arith, tells), grind (arith, tells))
+    passes b x r = cond-else b (Err x) r (Ok p) (λ q. grind arith)
 
 two-numbers : (ns : List ℕ) → length ns ≡ 2 → ns ≡ getD ns 0 0 ∷ getD ns 1 0 ∷ []
 two-numbers [] e = absurd (omega arith)
@@ -115,12 +100,12 @@ module _ (d : Draft) (few : length (d .dims) ≤ 256) where
       let count = length-numbers body even in
       (ap (λ r. 2 ∷ r) (sym (body-back body _ even (two-numbers (numbers body) (omega arith)) good)), tt)
   kind-back (suc (suc (suc k))) body known size good =
-      let kind = face-kind k body in
+      let long = body-length-face (suc (suc (suc k))) (omega arith) in
       let even : length body % 2 ≡ 0 = omega arith in
       let count = length-numbers body even in
       let many : suc (suc (suc k)) ≡ length (numbers body) = omega arith in
       let face-back : Back d (suc (suc (suc k))) body (face (numbers body)) = λ fine. (ap₂ _∷_ many (sym (body-back body (numbers body) even refl fine)), (omega arith, omega arith)) in
-      subst (Back d (suc (suc (suc k))) body) (sym (kind .0)) face-back good
+      subst (Back d (suc (suc (suc k))) body) (sym (record-of-face (suc (suc (suc k))) (omega arith) body)) face-back good
 
 pub next-spelled : (n : ℕ) (d : Draft) (bs : List ℕ) (p : Record × List ℕ) → length (d .dims) ≤ 256 → next n bs ≡ Ok p → bad-vertex d (p .0) ≡ false → (bs ≡ bytes-of (p .0) ++ p .1) × Sized (p .0)
 next-spelled n d bs p few e =

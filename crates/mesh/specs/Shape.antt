@@ -92,3 +92,7 @@ pub record Shape : Type 0 where
 -- the curve edges of a shape
 abbrev pub curve-edges : Shape → List Side
 curve-edges s = marked (edges (s .faces)) (s .curves)
+
+-- one triangle with three curve edges, and dimension 0 throughout
+abbrev pub starting : Shape
+starting = record { dims = 0 ∷ 0 ∷ 0 ∷ []; faces = (0 ∷ 1 ∷ 2 ∷ []) ∷ []; curves = true ∷ true ∷ true ∷ [] }

@@ -6,7 +6,7 @@ use Prim.Native.Nat.{_-_}
 use lib.ListN.{length, getD, take, drop}
 use Rattle.std.proofs.shelf.Lists.{at-drop-more, at-drop-all}
 use Rattle.mesh.specs.Shape.{onward}
-use Rattle.base.proofs.Steps.{pushed, around-front}
+use Rattle.base.proofs.Steps.{appended, around-front}
 use Rattle.base.proofs.corners.sides_around.Needs as need
 
 pub loop-head-again : need.loop-head-again
@@ -14,7 +14,7 @@ loop-head-again c =
     let cs = c .args .corners .now in
     let rest = take (length cs - 1) (drop 1 cs) in
     let step = at-drop-more (onward (getD cs 0 0) (c .loop-head .tail)) rest (c .loop-head .head-index) 0 (c .loop-head-test .taken) in
-    pushed _ _ _ _ _ (c .in-Continue-push .ensures tt .items) step ∙ c .loop-head .inv
+    appended _ _ _ _ _ (c .in-Continue-push .ensures tt .items) step ∙ c .loop-head .inv
 
 pub returns : need.returns
 returns c =

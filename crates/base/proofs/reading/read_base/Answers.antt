@@ -9,7 +9,7 @@ use Rattle.std.proofs.shelf.Results.{err-from-errBy}
 use Rattle.std.proofs.shelf.Tests.{eqb-true, eqb-false}
 use Rattle.refusal.specs.declared.Refusal.the-variants.{TrailingByte}
 use Rattle.mesh.specs.Reading.{finished, checked, reading}
-use Rattle.mesh.proofs.Accepted.{reads-writings}
+use Rattle.mesh.proofs.ReadsWritings.{reads-writings}
 use Rattle.base.specs.Drafts.{drafted}
 use Rattle.base.specs.Faces.{shaped}
 use Rattle.base.proofs.Verdicts.{passed-on, stopped, trailed, whole}
@@ -47,7 +47,7 @@ pub ghost-result : need.ghost-result
 ghost-result c =
     let at = need.at·ghost-result c in
     let tied = c .in-Continue-draft .ensures tt .tied in
-    (tied .sided, (tied .edged, (∣ reads-writings (c .args .bytes .now) _ (given-shape (at .In-Continue-curves) (all-read (at .After-judge))) .0 ∣₁, tt)))
+    (tied .total, (tied .sided, (tied .edged, (∣ reads-writings (c .args .bytes .now) _ (given-shape (at .In-Continue-curves) (all-read (at .After-judge))) .0 ∣₁, tt))))
 
 pub returns : need.returns
 returns c =

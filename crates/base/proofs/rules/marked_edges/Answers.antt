@@ -6,7 +6,7 @@ use lib.ListN.{length, drop}
 use Rattle.std.specs.Of.Vec.{vec-items}
 use Rattle.std.proofs.shelf.Lists.{append-nil}
 use Rattle.mesh.specs.Shape.{marked}
-use Rattle.base.proofs.Steps.{pushed, marked-yes, marked-no, marked-all}
+use Rattle.base.proofs.Steps.{appended, marked-yes, marked-no, marked-all}
 use Rattle.base.proofs.rules.marked_edges.Needs as need
 use Rattle.base.proofs.rules.marked_edges.Needs.{then-curves-e·in-Continue-push, else-curves-e}
 
@@ -17,7 +17,7 @@ loop-e-again c =
     let e = c .loop-e .e in
     let k : e < length ms = omega arith in
     elim (c .if-curves-e .came) [
-      then-curves-e·in-Continue-push w ↦ ap (λ v. vec-items v ++ marked (drop (e + 1) es) (drop (e + 1) ms)) (w .out-is) ∙ pushed _ _ _ _ _ (w .in-Continue-push .ensures tt .items) (marked-yes es ms e (c .loop-e-test .taken) k (w .if-curves-e .taken)) ∙ c .loop-e .inv
+      then-curves-e·in-Continue-push w ↦ ap (λ v. vec-items v ++ marked (drop (e + 1) es) (drop (e + 1) ms)) (w .out-is) ∙ appended _ _ _ _ _ (w .in-Continue-push .ensures tt .items) (marked-yes es ms e (c .loop-e-test .taken) k (w .if-curves-e .taken)) ∙ c .loop-e .inv
     | else-curves-e w ↦ ap (λ v. vec-items v ++ marked (drop (e + 1) es) (drop (e + 1) ms)) (w .out-is) ∙ ap (λ l. vec-items (c .loop-e .out) ++ l) (sym (marked-no es ms e (c .loop-e-test .taken) k (w .if-curves-e .left))) ∙ c .loop-e .inv
     ]
 

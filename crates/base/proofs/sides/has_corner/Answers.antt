@@ -4,7 +4,8 @@ use lib.Dec.{eqb}
 use borrow.Author.Count.{below-more}
 use Rattle.std.proofs.shelf.Tests.{eq-eqb, ne-eqb}
 use Rattle.mesh.specs.Shape.{nowhere}
-use Rattle.base.proofs.Tests.{any-here, any-none}
+use Rattle.mesh.proofs.Lists.{any-here}
+use Rattle.base.proofs.Tests.{any-nowhere}
 use Rattle.base.proofs.sides.has_corner.Needs as need
 
 pub returns-then-from-vertex : need.returns-then-from-vertex
@@ -14,4 +15,4 @@ pub loop-side-again : need.loop-side-again
 loop-side-again c = below-more _ _ (c .loop-side .inv) (ne-eqb _ _ (λ e. c .if-from-vertex .left (c .from .ensures ∙ e)))
 
 pub returns : need.returns
-returns c = sym (any-none (λ s. eqb (s .tail) (c .args .vertex)) _ nowhere (λ k l. c .loop-side .inv k (omega arith)))
+returns c = sym (any-nowhere (λ s. eqb (s .tail) (c .args .vertex)) _ nowhere (λ k l. c .loop-side .inv k (omega arith)))

@@ -5,7 +5,8 @@ use borrow.Author.Count.{below-more}
 use Rattle.std.specs.shelf.Lists.{countBy}
 use Rattle.std.proofs.shelf.Tests.{le-leb, lt-leb}
 use Rattle.mesh.specs.Shape.{joins, nowhere}
-use Rattle.base.proofs.Tests.{any-here, any-none}
+use Rattle.mesh.proofs.Lists.{any-here}
+use Rattle.base.proofs.Tests.{any-nowhere}
 use Rattle.base.proofs.sides.has_full_edge.Needs as need
 
 pub returns-then-count-uses-ge2 : need.returns-then-count-uses-ge2
@@ -15,4 +16,4 @@ pub loop-side-again : need.loop-side-again
 loop-side-again c = below-more _ _ (c .loop-side .inv) (lt-leb 2 _ (omega arith))
 
 pub returns : need.returns
-returns c = sym (any-none (λ s. leb 2 (countBy (joins s) (c .args .sides .now))) _ nowhere (λ k l. c .loop-side .inv k (omega arith)))
+returns c = sym (any-nowhere (λ s. leb 2 (countBy (joins s) (c .args .sides .now))) _ nowhere (λ k l. c .loop-side .inv k (omega arith)))

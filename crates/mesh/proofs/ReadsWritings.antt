@@ -24,10 +24,13 @@ use Rattle.mesh.specs.Rules.{Rules, fits}
 use Rattle.mesh.specs.Records.{bytes-of, end}
 use Rattle.mesh.specs.Reading.{Draft, blank, empty, finished, open-edge, bad-valence, bad-dimension, at, trailing, checked, records, reading}
 use Rattle.mesh.specs.Laws.{Writing, Reads-writings}
+use Rattle.mesh.proofs.Lists.{some-from-empty, any-here}
+use Rattle.mesh.proofs.Occurs.{count-present}
+use Rattle.mesh.proofs.Results.{then-ok, unless-ok}
 use Rattle.mesh.proofs.Lowests.{lowest-missing}
-use Rattle.mesh.proofs.Edges.{firsts-apart, firsts-used, known-from}
-use Rattle.mesh.proofs.Named.{number-in, number-joins, all-marked, marked-at, occurs-at, count-number, count-present}
-use Rattle.mesh.proofs.Kept.{Good, then-ok, unless-ok, records-ended, blank-good}
+use Rattle.mesh.proofs.Edges.{number, number-first, known-from, firsts-apart, firsts-used, count-number}
+use Rattle.mesh.proofs.Marks.{all-marked, marked-at}
+use Rattle.mesh.proofs.Kept.{Good, records-ended, blank-good}
 
 -- no row that waits for the end refuses the shape
 record Sound (s : Shape) : Type 0 where
@@ -50,15 +53,11 @@ sound s t e =
   where
     nowhere-at : (f : ℕ → Refusal) (o : Option ℕ) → at f o ≡ None → o ≡ None
     nowhere-at f None e′ = refl
-    nowhere-at f (Some k) e′ = let z : _≡_ {A = ℕ} 0 1 = cc in absurd (omega arith)
-
-some-from : {A : Type 0} (xs : List A) → empty xs ≡ false → 0 < length xs
-some-from [] e = let z : _≡_ {A = ℕ} 0 1 = cc in absurd (omega arith)
-some-from (x ∷ xs) e = omega arith
+    nowhere-at f (Some k) e′ = absurd (grind arith)
 
 none-trails : (total : ℕ) (bs : List ℕ) → trailing total bs ≡ None → bs ≡ []
 none-trails total [] e = refl
-none-trails total (b ∷ bs) e = let z : _≡_ {A = ℕ} 0 1 = cc in absurd (omega arith)
+none-trails total (b ∷ bs) e = absurd (grind arith)
 
 abbrev es : Draft → List Side
 es d = edges (d .faces)
@@ -74,7 +73,7 @@ module _ (bytes : List ℕ) (d : Draft) (g : Good bytes d (bytes-of end)) where
   keeps-rules : Sound (finished d) → empty (d .faces) ≡ false → Rules (finished d)
   keeps-rules s some =
       record {
-        some-face = some-from (d .faces) some;
+        some-face = some-from-empty (d .faces) some;
         most-vertices = g .most-vertices;
         most-faces = g .most-faces;
         most-edges = g .most-edges;
@@ -89,11 +88,11 @@ module _ (bytes : List ℕ) (d : Draft) (g : Good bytes d (bytes-of end)) where
       }
 
   -- the edge that curve record i names is marked
-  names-marked : (i : ℕ) → i < length (g .curves) → occurs (number-in (es d) (getD (g .curves) i nowhere)) (d .named) ≡ true
+  names-marked : (i : ℕ) → i < length (g .curves) → occurs (number (es d) (getD (g .curves) i nowhere)) (d .named) ≡ true
   names-marked i l =
-      let numbers = map (number-in (es d)) (g .curves) in
-      let there = occurs-at numbers i (rw (length-map (g .curves) (number-in (es d))) l) in
-      rw (g .named, ← getD-map (number-in (es d)) (g .curves) i nowhere 0 l) there
+      let numbers = map (number (es d)) (g .curves) in
+      let there = any-here (λ n. eqb n (getD numbers i 0)) numbers i 0 (rw (length-map (g .curves) (number (es d))) l) (eq-eqb (getD numbers i 0) (getD numbers i 0) refl) in
+      rw (g .named, ← getD-map (number (es d)) (g .curves) i nowhere 0 l) there
 
   is-writing : Writing (finished d) bytes
   is-writing =
@@ -104,8 +103,8 @@ module _ (bytes : List ℕ) (d : Draft) (g : Good bytes d (bytes-of end)) where
             all-from-getD (λ c. isSome (edge-of (curve-edges (finished d)) c) ≡ true) (g .curves) nowhere
             (λ i l.
             let c = getD (g .curves) i nowhere in
-            let it = number-joins (es d) c (all-getD (λ c′. isSome (edge-of (es d) c′) ≡ true) (g .curves) i nowhere l (g .known)) in
-            let m = marked-at (es d) (marks d) (number-in (es d) c) (it .0) (mark-at d (number-in (es d) c) (it .0) ∙ names-marked i l) in
+            let it = number-first (es d) c (all-getD (λ c′. isSome (edge-of (es d) c′) ≡ true) (g .curves) i nowhere l (g .known)) in
+            let m = marked-at (es d) (marks d) (number (es d) c) (it .0) (mark-at d (number (es d) c) (it .0) ∙ names-marked i l) in
             known-from (curve-edges (finished d)) c (m .0) (m .1) (ap (λ t. joins t c) (m .2) ∙ it .1));
         each-once =
             all-marked (λ e. countBy (joins e) (g .curves) ≡ 1) (es d) (marks d)

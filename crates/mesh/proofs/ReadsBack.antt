@@ -1,9 +1,9 @@
 -- What is written of a shape that keeps the rules is read as that shape. Assumes nothing.
 use mathlib.Core.Bool.{false, not}
-use mathlib.Core.List.{List, [], _∷_, _++_, map}
+use mathlib.Core.List.{[], _++_, map}
 use mathlib.Core.Logic.{⊎-elim}
 use mathlib.Core.Path.{_≡_, refl, sym, ap, subst, _∙_}
-use Prim.Native.Nat.{_<_, _≤_}
+use Prim.Native.Nat.{_≤_}
 use native.Mathlib.Omega.{arith}
 use lib.Dec.{eqb}
 use lib.ListN.{length, getD}
@@ -16,18 +16,15 @@ use Rattle.mesh.specs.Lowest.{lowest}
 use Rattle.mesh.specs.Shape.{Shape, nowhere, sides, edges, uses, degree, curve-edges}
 use Rattle.mesh.specs.Rules.{Rules}
 use Rattle.mesh.specs.Records.{vertex, face, curve, end, bytes-of, written}
-use Rattle.mesh.specs.Reading.{blank, empty, records, finished, open-edge, bad-valence, bad-dimension, checked, reading}
+use Rattle.mesh.specs.Reading.{blank, records, finished, open-edge, bad-valence, bad-dimension, checked, reading}
 use Rattle.mesh.specs.Laws.{Reads-back}
+use Rattle.mesh.proofs.Lists.{empty-some}
 use Rattle.mesh.proofs.Lowests.{lowest-none}
 use Rattle.mesh.proofs.Edges.{count-from-firsts}
-use Rattle.mesh.proofs.Ends.{edges-ends}
-use Rattle.mesh.proofs.Drafts.{Accepted, Passes, passes-append, records-pass, length-records, records-of, written-records, draft-of, folded-vertices, folded-faces, folded-records}
-use Rattle.mesh.proofs.Passing.{Bounded, passes-vertices, passes-faces}
-use Rattle.mesh.proofs.Marks.{marks-again, passes-curves}
-
-some-left : {A : Type 0} (xs : List A) → 0 < length xs → empty xs ≡ false
-some-left [] l = absurd (omega arith)
-some-left (x ∷ xs) l = refl
+use Rattle.mesh.proofs.Faces.{edges-ends}
+use Rattle.mesh.proofs.Marks.{marks-again}
+use Rattle.mesh.proofs.Drafts.{Passed, Passes, passes-append, records-pass, length-records, records-of, written-records, draft-of, folded-vertices, folded-faces, folded-records}
+use Rattle.mesh.proofs.Passing.{Bounded, passes-vertices, passes-faces, passes-curves}
 
 module _ (s : Shape) (r : Rules s) where
   bounded : Bounded (s .faces)
@@ -45,9 +42,9 @@ module _ (s : Shape) (r : Rules s) where
       let rs = records-of (s .dims) (s .faces) (curve-edges s) in
       let bytes = joined bytes-of rs ++ bytes-of end in
       let given = folded-records (s .dims) (s .faces) (curve-edges s) in
-      let ends : Accepted (draft-of (s .dims) (s .faces) (curve-edges s)) end = record { in-order = refl; good-vertex = refl; good-curve = refl; room-at-edges = refl; few = some-left (s .faces) (r .some-face) } in
+      let ends : Passed (draft-of (s .dims) (s .faces) (curve-edges s)) end = record { in-order = refl; good-vertex = refl; good-curve = refl; room-at-edges = refl; few = empty-some (s .faces) (r .some-face) } in
       rw (written-records (s .dims) (s .faces) (curve-edges s))
-      (records-pass rs (length bytes) 0 blank passes (subst (λ d. Accepted d end) (sym given) ends) (omega (arith, length-records rs, length-append (joined bytes-of rs) (bytes-of end)))
+      (records-pass rs (length bytes) 0 blank passes (subst (λ d. Passed d end) (sym given) ends) (omega (arith, length-records rs, length-append (joined bytes-of rs) (bytes-of end)))
       ∙ ap (λ d. Ok (d, [])) given)
 
   finished-again : finished (draft-of (s .dims) (s .faces) (curve-edges s)) ≡ s
