@@ -49,9 +49,9 @@ unfolding firsts
 edges-more faces cs = ap (folded with-side []) (sides-more faces cs) ∙ folded-append with-side [] (sides faces) (around cs)
 
 module _ (m m′ : Draft) (cs : List ℕ) (tied : Tied m)
-  (sizes′ : vec-items (m′ .sizes) ≡ vec-items (m .sizes) ++ length cs ∷ [])
-  (sides′ : vec-items (m′ .sides) ≡ vec-items (m .sides) ++ around cs)
-  (edges′ : vec-items (m′ .edges) ≡ folded with-side (vec-items (m .edges)) (around cs)) where
+    (sizes′ : vec-items (m′ .sizes) ≡ vec-items (m .sizes) ++ length cs ∷ [])
+    (sides′ : vec-items (m′ .sides) ≡ vec-items (m .sides) ++ around cs)
+    (edges′ : vec-items (m′ .edges) ≡ folded with-side (vec-items (m .edges)) (around cs)) where
   pub faces-more : drafted m′ .faces ≡ drafted m .faces ++ cs ∷ []
   faces-more =
       ap₂ parts (sizes′ ∙ ap (λ n. vec-items (m .sizes) ++ n ∷ []) (sym (length-around cs))) sides′

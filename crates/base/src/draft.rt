@@ -25,7 +25,9 @@ use refusal::Refusal;
 use std::alloc::Global;
 
 pub(crate) const MOST_VERTICES: usize = 256;
+
 pub(crate) const MOST_FACES: usize = 256;
+
 pub(crate) const MOST_EDGES: usize = 512;
 
 #[derive(Drop)]

@@ -51,9 +51,21 @@ fn read_base(heap: Global, bytes: &[u8]) -> Result<Base, Fault>
         return Err(Fault::Refused(Refusal::TrailingByte(bytes.len().saturating_sub(rest.len()))));
     }
     let curves = judge(heap, &draft)?;
-    let Draft { dims, sizes, sides, edges, named } = draft;
+    let Draft {
+        dims,
+        sizes,
+        sides,
+        edges,
+        named,
+    } = draft;
     drop(named);
-    Ok(Base { dims, sizes, sides, edges, curves })
+    Ok(Base {
+        dims,
+        sizes,
+        sides,
+        edges,
+        curves,
+    })
 }
 
 impl Base {
@@ -61,13 +73,23 @@ impl Base {
     pub fn start(heap: Global) -> Result<Base, AllocError>
         ensures { λ r. ⌜ made r (λ b. shape b ≡ starting) ⌝ }
     {
-        let round = [Side { tail: 0, head: 1 }, Side { tail: 1, head: 2 }, Side { tail: 2, head: 0 }];
+        let round = [
+            Side { tail: 0, head: 1 },
+            Side { tail: 1, head: 2 },
+            Side { tail: 2, head: 0 },
+        ];
         let dims = Vec::from_slice(heap, &[0, 0, 0])?;
         let sizes = Vec::from_slice(heap, &[3])?;
         let sides = Vec::from_slice(heap, &round)?;
         let edges = Vec::from_slice(heap, &round)?;
         let curves = Vec::from_slice(heap, &[true, true, true])?;
-        Ok(Base { dims, sizes, sides, edges, curves })
+        Ok(Base {
+            dims,
+            sizes,
+            sides,
+            edges,
+            curves,
+        })
     }
 
     pub fn counts(&self) -> Counts

@@ -42,7 +42,11 @@ pub fn next_record<'a>(bytes: &'a [u8], number: usize) -> Result<(Record<'a>, &'
 }
 
 // A face with `kind` corners, whose body stands at the front of `rest`.
-fn face_record<'a>(kind: u8, rest: &'a [u8], number: usize) -> Result<(Record<'a>, &'a [u8]), Refusal>
+fn face_record<'a>(
+    kind: u8,
+    rest: &'a [u8],
+    number: usize,
+) -> Result<(Record<'a>, &'a [u8]), Refusal>
     requires { ⌜ 3 ≤ kind ⌝ ∗ ⌜ kind ≤ 8 ⌝ }
     ensures { λ r. ⌜ seen r ≡ next number (kind ∷ now (rest .entry)) ⌝ }
 {

@@ -40,7 +40,11 @@ fn mark_curves(heap: Global, count: usize, named: &[usize]) -> Result<Vec<bool>,
 }
 
 // The edges that are curves.
-pub(crate) fn marked_edges(heap: Global, edges: &[Side], curves: &[bool]) -> Result<Vec<Side>, AllocError>
+pub(crate) fn marked_edges(
+    heap: Global,
+    edges: &[Side],
+    curves: &[bool],
+) -> Result<Vec<Side>, AllocError>
     requires { ⌜ length (now curves) ≡ length (now edges) ⌝ }
     ensures { λ r. ⌜ made r (λ v. vec-items v ≡ marked (now (edges .entry)) (now (curves .entry))) ⌝ }
 {

@@ -102,7 +102,9 @@ impl Refusal {
             | Refusal::TooMany(record) => record,
             Refusal::TrailingByte(index) => index,
             Refusal::OpenEdge(edge) => edge,
-            Refusal::BadValence(vertex) | Refusal::BadDimension(vertex) | Refusal::RefinedValence(vertex) => vertex,
+            Refusal::BadValence(vertex)
+            | Refusal::BadDimension(vertex)
+            | Refusal::RefinedValence(vertex) => vertex,
             Refusal::LevelCount(levels) => levels,
             Refusal::TooFine(level) => level,
             Refusal::TableTooShort(length) | Refusal::WrongLength(length) => length,

@@ -16,8 +16,8 @@ returns-then-from-vertices c =
     let after = take (length rest - 1) (drop 1 rest) in
     let front = proper-front (c .args .vertices) rest (search needs) in
     elim (c .then-from-vertices .came) [
-      then-from-vertices·by·then-from-vertices w ↦ sym (proper-unknown (c .args .vertices) first after (le-ltb first (c .args .vertices) (omega (arith, c .from .ensures, w .if-from-vertices .taken)))) ∙ sym front ∙ c .loop-rest .inv
-    | then-from-vertices·by·else-from-vertices·then-contains w ↦ sym (proper-twice (c .args .vertices) first after (sym (occurs-from-contains after first (w .contains .result) (w .contains .ensures .cases)) ∙ w .if-contains .taken)) ∙ sym front ∙ c .loop-rest .inv
+      | then-from-vertices·by·then-from-vertices w ↦ sym (proper-unknown (c .args .vertices) first after (le-ltb first (c .args .vertices) (omega (arith, c .from .ensures, w .if-from-vertices .taken)))) ∙ sym front ∙ c .loop-rest .inv
+      | then-from-vertices·by·else-from-vertices·then-contains w ↦ sym (proper-twice (c .args .vertices) first after (sym (occurs-from-contains after first (w .contains .result) (w .contains .ensures .cases)) ∙ w .if-contains .taken)) ∙ sym front ∙ c .loop-rest .inv
     ]
 
 pub loop-rest-again : need.loop-rest-again

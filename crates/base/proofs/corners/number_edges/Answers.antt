@@ -21,8 +21,8 @@ loop-side-again c =
     let on = λ (l : List Side). folded with-side l (drop (c .loop-side .side-index + 1) (c .args .sides .now)) in
     let told : isSome (edge-of es s) ≡ not (c .is-none .result) = ap (λ l. isSome (edge-of l s)) (sym (c .deref .ensures .value)) ∙ ap isSome (sym (c .find-edge .ensures)) ∙ c .is-none .ensures in
     elim (c .if-is-none .came) [
-      then-is-none·in-Continue-push w ↦ ap (λ v. on (vec-items v)) (w .edges-is) ∙ ap on (w .in-Continue-push .ensures tt .items ∙ sym (with-new es s (told ∙ ap not (w .if-is-none .taken)))) ∙ sym step ∙ c .loop-side .inv
-    | else-is-none w ↦ ap (λ v. on (vec-items v)) (w .edges-is) ∙ ap on (sym (with-known es s (told ∙ ap not (w .if-is-none .left)))) ∙ sym step ∙ c .loop-side .inv
+      | then-is-none·in-Continue-push w ↦ ap (λ v. on (vec-items v)) (w .edges-is) ∙ ap on (w .in-Continue-push .ensures tt .items ∙ sym (with-new es s (told ∙ ap not (w .if-is-none .taken)))) ∙ sym step ∙ c .loop-side .inv
+      | else-is-none w ↦ ap (λ v. on (vec-items v)) (w .edges-is) ∙ ap on (sym (with-known es s (told ∙ ap not (w .if-is-none .left)))) ∙ sym step ∙ c .loop-side .inv
     ]
 
 pub returns : need.returns

@@ -17,8 +17,8 @@ loop-e-again c =
     let e = c .loop-e .e in
     let k : e < length ms = omega arith in
     elim (c .if-curves-e .came) [
-      then-curves-e·in-Continue-push w ↦ ap (λ v. vec-items v ++ marked (drop (e + 1) es) (drop (e + 1) ms)) (w .out-is) ∙ appended _ _ _ _ _ (w .in-Continue-push .ensures tt .items) (marked-yes es ms e (c .loop-e-test .taken) k (w .if-curves-e .taken)) ∙ c .loop-e .inv
-    | else-curves-e w ↦ ap (λ v. vec-items v ++ marked (drop (e + 1) es) (drop (e + 1) ms)) (w .out-is) ∙ ap (λ l. vec-items (c .loop-e .out) ++ l) (sym (marked-no es ms e (c .loop-e-test .taken) k (w .if-curves-e .left))) ∙ c .loop-e .inv
+      | then-curves-e·in-Continue-push w ↦ ap (λ v. vec-items v ++ marked (drop (e + 1) es) (drop (e + 1) ms)) (w .out-is) ∙ appended _ _ _ _ _ (w .in-Continue-push .ensures tt .items) (marked-yes es ms e (c .loop-e-test .taken) k (w .if-curves-e .taken)) ∙ c .loop-e .inv
+      | else-curves-e w ↦ ap (λ v. vec-items v ++ marked (drop (e + 1) es) (drop (e + 1) ms)) (w .out-is) ∙ ap (λ l. vec-items (c .loop-e .out) ++ l) (sym (marked-no es ms e (c .loop-e-test .taken) k (w .if-curves-e .left))) ∙ c .loop-e .inv
     ]
 
 pub returns : need.returns

@@ -11,8 +11,8 @@ loop-edge-again c =
     let more = countBy-more-yes (touches (c .args .vertex)) (c .args .edges .now) (c .loop-edge .edge-index) nowhere (c .loop-edge-test .taken) in
     let same = countBy-more-no (touches (c .args .vertex)) (c .args .edges .now) (c .loop-edge .edge-index) nowhere (c .loop-edge-test .taken) in
     elim (c .if-ends-at .came) [
-      then-ends-at w ↦ (omega (arith, w .n-is), omega (arith, w .n-is, more (sym (c .ends-at .ensures) ∙ w .if-ends-at .taken)))
-    | else-ends-at w ↦ (omega (arith, w .n-is), omega (arith, w .n-is, same (sym (c .ends-at .ensures) ∙ w .if-ends-at .left)))
+      | then-ends-at w ↦ (omega (arith, w .n-is), omega (arith, w .n-is, more (sym (c .ends-at .ensures) ∙ w .if-ends-at .taken)))
+      | else-ends-at w ↦ (omega (arith, w .n-is), omega (arith, w .n-is, same (sym (c .ends-at .ensures) ∙ w .if-ends-at .left)))
     ]
 
 pub returns : need.returns

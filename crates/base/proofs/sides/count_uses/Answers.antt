@@ -12,8 +12,8 @@ loop-side-again c =
     let more = countBy-more-yes (joins (c .args .edge)) (c .args .sides .now) (c .loop-side .side-index) nowhere (c .loop-side-test .taken) in
     let same = countBy-more-no (joins (c .args .edge)) (c .args .sides .now) (c .loop-side .side-index) nowhere (c .loop-side-test .taken) in
     elim (c .if-same-ends .came) [
-      then-same-ends w ↦ (omega (arith, w .n-is), omega (arith, w .n-is, more (sym (c .same-ends .ensures) ∙ w .if-same-ends .taken)))
-    | else-same-ends w ↦ (omega (arith, w .n-is), omega (arith, w .n-is, same (sym (c .same-ends .ensures) ∙ w .if-same-ends .left)))
+      | then-same-ends w ↦ (omega (arith, w .n-is), omega (arith, w .n-is, more (sym (c .same-ends .ensures) ∙ w .if-same-ends .taken)))
+      | else-same-ends w ↦ (omega (arith, w .n-is), omega (arith, w .n-is, same (sym (c .same-ends .ensures) ∙ w .if-same-ends .left)))
     ]
 
 pub returns : need.returns

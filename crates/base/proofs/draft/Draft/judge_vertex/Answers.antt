@@ -12,8 +12,8 @@ pub returns-then-has-faces : need.returns-then-has-faces
 returns-then-has-faces c =
     let row = row-order (c .args .number) (drafted (c .args .self .now)) (vertex (c .args .dimension)) in
     elim (c .then-has-faces .came) [
-      then-has-faces·by·then-has-faces w ↦ sym (row (or-left _ _ (sym (c .has-faces .ensures) ∙ w .if-has-faces .taken)))
-    | then-has-faces·by·else-has-faces·then-has-curves w ↦ sym (row (or-right _ _ (sym (w .has-curves .ensures) ∙ w .if-has-curves .taken)))
+      | then-has-faces·by·then-has-faces w ↦ sym (row (or-left _ _ (sym (c .has-faces .ensures) ∙ w .if-has-faces .taken)))
+      | then-has-faces·by·else-has-faces·then-has-curves w ↦ sym (row (or-right _ _ (sym (w .has-curves .ensures) ∙ w .if-has-curves .taken)))
     ]
 
 pub returns-then-dimension-gt2 : need.returns-then-dimension-gt2
