@@ -16,7 +16,7 @@ use Rattle.std.specs.Orderings.{Decides}
 use Rattle.std.specs.shelf.Lists.{between}
 use Rattle.std.specs.shelf.Text.{sameBytes}
 use Rattle.job.specs.Lines.{texts, Holds}
-use Rattle.job.specs.Meaning.{Meaning, nothing, base, unknown, wrong-count, comment, base-of, meaning-of, meaning}
+use Rattle.job.specs.Meaning.{nothing, base, unknown, wrong-count, comment, base-of, meaning-of, meaning}
 use Rattle.job.specs.Words.{words, Word}
 use Rattle.job.proofs.Cuts.{words-word, words-last}
 

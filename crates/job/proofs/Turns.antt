@@ -1,5 +1,4 @@
 -- One word after another. Assumes nothing.
-use mathlib.Core.Bool.{Bool}
 use mathlib.Core.List.{List, [], _∷_, _++_, append-nil, append-assoc}
 use mathlib.Core.Logic.{⊎-elim}
 use mathlib.Core.Path.{_≡_, refl, sym, ap, subst, _∙_}
@@ -12,7 +11,7 @@ use Rattle.std.proofs.shelf.Lists.{length-set, length-push, length-map, map-set
 use Rattle.std.proofs.shelf.Patterns.{drop-at-char}
 use Rattle.std.proofs.shelf.Elements.{all-from-getD}
 use Rattle.std.proofs.shelf.Tests.{cases-lt}
-use Rattle.std.specs.Finds.{BeginsChar, CharAt, Peeled, peeled, Stops}
+use Rattle.std.specs.Finds.{BeginsChar, Peeled, peeled, Stops}
 use Rattle.std.specs.Options.{Cases}
 use Rattle.std.specs.declared.option.Option.{Option}
 use Rattle.std.specs.declared.option.Option.the-variants.{Some, None}

@@ -1,5 +1,5 @@
-use mathlib.Core.Path.{ap, sym, subst, _∙_}
-use mathlib.Core.List.{[], _∷_}
+use mathlib.Core.Path.{ap, sym, _∙_}
+use mathlib.Core.List.{_∷_}
 use native.Mathlib.Omega.{arith}
 use lib.ListN.{length}
 use borrow.Author.Tests.{true-eqb, false-eqb}

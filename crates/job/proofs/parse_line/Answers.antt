@@ -1,6 +1,4 @@
-use mathlib.Core.List.{_++_}
 use mathlib.Core.Path.{_≡_, ap, _∙_}
-use lib.ListN.{length}
 use borrow.Author.Needs.{needs}
 use Rattle.job.specs.Lines.{view}
 use Rattle.job.specs.Meaning.{meaning}

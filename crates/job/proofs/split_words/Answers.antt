@@ -3,7 +3,7 @@ use Prim.Native.Nat.{_+_}
 use lib.ListN.{set}
 use borrow.Author.Needs.{needs}
 use Rattle.job.specs.Lines.{texts}
-use Rattle.job.proofs.Turns.{Sofar, none-seen, one-more, stored, left-out}
+use Rattle.job.proofs.Turns.{Sofar, none-seen, one-more, stored, left-out, counted, held}
 use Rattle.job.proofs.split_words.Needs as need
 use Rattle.job.proofs.split_words.Needs.{then-count-room, else-count-room}
 
@@ -23,3 +23,8 @@ loop-word-again c =
       | else-count-room w ↦ ap texts (w .room-is) ∙ left-out (c .loop-word .room) n word (w .if-count-room .left)
     ] in
     (search needs, subst (λ r. Sofar line r (n + 1) after) (sym kept) (one-more line room n (c .loop-word .rest .now) (c .loop-word .inv .1) word after (told .value) (told .shorter)))
+
+pub returns : need.returns
+returns c =
+    let none = c .in-rest .ensures tt .value in
+    record { count = counted _ _ _ _ (c .loop-word .inv .1) none; first = held _ _ _ _ (c .loop-word .inv .1) none }
