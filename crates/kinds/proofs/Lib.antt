@@ -1,0 +1,4 @@
+pub mod Cancelling
+pub mod Flags
+pub mod Points
+pub mod Wrapping

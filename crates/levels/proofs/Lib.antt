@@ -1,0 +1,13 @@
+pub mod Counting
+pub mod Rising
+pub mod Corners
+pub mod Lists
+pub mod Places
+pub mod FinerCounts
+pub mod Uses
+pub mod FinerSound
+pub mod Hierarchies
+pub mod CurveSound
+pub mod Rounds
+pub mod SurfaceSound
+pub mod Cube
