@@ -11,3 +11,5 @@ pub mod CurveSound
 pub mod Rounds
 pub mod SurfaceSound
 pub mod Cube
+pub mod CurveCounts
+pub mod CurveLawful

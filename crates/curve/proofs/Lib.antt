@@ -1,0 +1,6 @@
+mod AtLevels
+mod Births
+mod Faceless
+mod Neighbours
+mod Places
+mod Zeros
