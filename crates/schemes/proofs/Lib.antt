@@ -1,0 +1,10 @@
+pub mod Joined
+pub mod Lifts
+pub mod Products
+pub mod Roundings
+pub mod Shares
+pub mod Sizes
+pub mod Tallies
+pub mod Unmoved
+pub mod Values
+pub mod Zeros
