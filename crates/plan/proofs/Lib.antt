@@ -1,0 +1,11 @@
+pub mod Places
+pub mod Sorts
+pub mod Reading
+pub mod Grouping
+pub mod Showing
+pub mod Plains
+pub mod Crossing
+pub mod Telling
+pub mod Worked
+pub mod Asked
+pub mod Finding
