@@ -1,4 +1,6 @@
 // A base: the coarsest control mesh, read from its records, judged, and written back.
+#![tactic(auto)]
+
 mod base;
 mod corners;
 mod counts;

@@ -1,4 +1,6 @@
 // The library for programs in C: judging a base, how much it needs, and whole runs of a form in one call.
+#![tactic(auto)]
+
 mod converting;
 mod crossing;
 mod exports;

@@ -1,4 +1,6 @@
 // A curve as a hierarchy. It holds no table: every number is worked out from a position along it.
+#![tactic(auto)]
+
 mod curve;
 mod few;
 mod making;

@@ -1,4 +1,6 @@
 // The worked figures: one table of them, and one statement over it.
+#![tactic(auto)]
+
 ghost use Rattle.std.specs.Prelude.{◌≡◌, length};
 ghost use Rattle.figures.specs.Table.{table, EveryRowHolds};
 

@@ -1,4 +1,6 @@
 // Prints runs of forms, as the compiled code makes them: every answer, and what is stored at the end.
+#![tactic(auto)]
+
 use curve::Curve;
 use form::perform;
 use hierarchy::Hierarchy;

@@ -1,4 +1,6 @@
 // What a hierarchy of levels means, and what every implementation of one owes.
+#![tactic(auto)]
+
 mod interface;
 mod limits;
 mod link;

@@ -1,4 +1,6 @@
 // What a form is asked and what it answers, and the plain history that every answer is measured against.
+#![tactic(auto)]
+
 mod answer;
 mod call;
 mod outcome;

@@ -1,4 +1,6 @@
 // A job: a text with one command to a line, and what each line says.
+#![tactic(auto)]
+
 mod arguments;
 mod command;
 mod line;

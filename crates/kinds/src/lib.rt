@@ -1,4 +1,6 @@
 // Value kinds: what can stand at a place of a surface, with the sum by which places are changed.
+#![tactic(auto)]
+
 mod kind;
 mod marks;
 mod pair;

@@ -1,5 +1,7 @@
 // Asks hierarchies everything that can be asked, and prints the answers, so that they can be compared with those of a model.
 // Each line of standard input names one: base FILE L, open N L or closed N L.
+#![tactic(auto)]
+
 use base::Base;
 use curve::Curve;
 use hierarchy::{Hierarchy, Link};

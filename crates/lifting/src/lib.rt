@@ -1,4 +1,6 @@
 // The lifting transform, written once for every hierarchy, scheme and value kind, in place over lent values.
+#![tactic(auto)]
+
 mod checks;
 mod half_step;
 mod journey;

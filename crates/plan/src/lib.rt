@@ -1,4 +1,6 @@
 // The planned table: the levels of a base, worked out once into a table of numbers, from which every question is answered by a few loads.
+#![tactic(auto)]
+
 mod block;
 mod building;
 mod coarsest;

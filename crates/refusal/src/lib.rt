@@ -1,4 +1,6 @@
 // Every refusal that the product can answer, in one closed table.
+#![tactic(auto)]
+
 ghost use Rattle.std.specs.Prelude.{◌≡◌};
 ghost use Rattle.refusal.specs.Table.{row};
 ghost use Rattle.refusal.specs.declared.Fault.TheVariants.{Refused as Refused-by, Memory};

@@ -1,4 +1,6 @@
 // Schemes: how much a step of the transform adds to a point, from the values that the point reads.
+#![tactic(auto)]
+
 mod both;
 mod cubic;
 mod equations;

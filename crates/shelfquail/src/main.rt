@@ -1,4 +1,6 @@
 // Runs a job, a text with one command to a line, and prints the record: one line for each command.
+#![tactic(auto)]
+
 mod record;
 mod session;
 

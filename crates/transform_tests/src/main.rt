@@ -1,4 +1,6 @@
 // Prints the worked figures of the transform, as the compiled code computes them.
+#![tactic(auto)]
+
 use curve::Curve;
 use figures::worked_figures;
 use hierarchy::Hierarchy;
