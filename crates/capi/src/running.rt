@@ -44,7 +44,7 @@ fn serve<H: Hierarchy, V: Crossing, S: Scheme<Value = V>>(
 ) -> Result<usize, Refusal>
     requires slots { length list.old ≡ length slots.old }
     requires answers { length room.old ≡ length answers.old }
-    ensures promise { Promise (meaning h.now) (rule S.Scheme V.ValueKind s.now) (S.Scheme.uniform s.now) depth calls.now (lent_to points.old list.old room.old) (lent_to points.new list.new room.new) result }
+    ensures promise { Promise (H.meaning h.now) (rule S.Scheme V.ValueKind s.now) (S.Scheme.uniform s.now) depth calls.now (lent_to points.old list.old room.old) (lent_to points.new list.new room.new) result }
     ensures written { handed points.new slots.new answers.new ≡ written V.Crossing result (handed points.old slots.old answers.old) (lent_to points.new list.new room.new) }
 {
     let count = perform(h, s, points, list, depth, calls, room)?;
@@ -64,7 +64,7 @@ fn run<H: Hierarchy, V: Crossing, S: Scheme<Value = V>>(
     calls: &[CallRecord],
     answers: &mut [AnswerRecord],
 ) -> Result<usize, Stop>
-    ensures { Performs V.Crossing (meaning h.now) (law_of S.Scheme V.ValueKind s.now) depth calls.now (handed points.old slots.old answers.old) (handed points.new slots.new answers.new) result }
+    ensures { Performs V.Crossing (H.meaning h.now) (law_of S.Scheme V.ValueKind s.now) depth calls.now (handed points.old slots.old answers.old) (handed points.new slots.new answers.new) result }
 {
     check_calls(calls)?;
     let calls: Vec<Call<V>> = read_all(heap, calls)?;
@@ -85,7 +85,7 @@ pub(crate) fn run_points<H: Hierarchy>(
     calls: &[CallRecord],
     answers: &mut [AnswerRecord],
 ) -> Result<usize, Stop>
-    ensures { Performs of_points (meaning h.now) (points_by scheme) depth calls.now (handed points.old slots.old answers.old) (handed points.new slots.new answers.new) result }
+    ensures { Performs of_points (H.meaning h.now) (points_by scheme) depth calls.now (handed points.old slots.old answers.old) (handed points.new slots.new answers.new) result }
 {
     match scheme {
         PointScheme::Linear => run(heap, h, &Linear, points, slots, depth, calls, answers),
@@ -102,7 +102,7 @@ pub(crate) fn run_marks<H: Hierarchy>(
     calls: &[CallRecord],
     answers: &mut [AnswerRecord],
 ) -> Result<usize, Stop>
-    ensures { Performs of_marks (meaning h.now) marks_law depth calls.now (handed marks.old slots.old answers.old) (handed marks.new slots.new answers.new) result }
+    ensures { Performs of_marks (H.meaning h.now) marks_law depth calls.now (handed marks.old slots.old answers.old) (handed marks.new slots.new answers.new) result }
 {
     run(heap, h, &MarksScheme, marks, slots, depth, calls, answers)
 }
@@ -117,7 +117,7 @@ fn run_both<H: Hierarchy>(
     calls: &[CallRecord],
     answers: &mut [AnswerRecord],
 ) -> Result<usize, Stop>
-    ensures { Performs of_pairs (meaning h.now) (beside_marks (points_by scheme)) depth calls.now (handed pairs.old slots.old answers.old) (handed pairs.new slots.new answers.new) result }
+    ensures { Performs of_pairs (H.meaning h.now) (beside_marks (points_by scheme)) depth calls.now (handed pairs.old slots.old answers.old) (handed pairs.new slots.new answers.new) result }
 {
     match scheme {
         PointScheme::Linear => {
@@ -150,7 +150,7 @@ fn run_copied<H: Hierarchy>(
     answers: &mut [AnswerRecord],
 ) -> Result<usize, Stop>
     requires { pairs.old ≡ map of_pairs.arrives values.old }
-    ensures { Performs of_pairs (meaning h.now) (beside_marks (points_by scheme)) depth calls.now (handed (map of_pairs.arrives values.old) slots.old answers.old) (handed (map of_pairs.arrives values.new) slots.new answers.new) result }
+    ensures { Performs of_pairs (H.meaning h.now) (beside_marks (points_by scheme)) depth calls.now (handed (map of_pairs.arrives values.old) slots.old answers.old) (handed (map of_pairs.arrives values.new) slots.new answers.new) result }
 {
     let result = run_both(heap, h, scheme, pairs, slots, depth, calls, answers);
     write_front(values, pairs, pairs.len());
@@ -167,7 +167,7 @@ pub(crate) fn run_pairs<H: Hierarchy>(
     calls: &[CallRecord],
     answers: &mut [AnswerRecord],
 ) -> Result<usize, Stop>
-    ensures { Performs of_pairs (meaning h.now) (beside_marks (points_by scheme)) depth calls.now (handed (map of_pairs.arrives values.old) slots.old answers.old) (handed (map of_pairs.arrives values.new) slots.new answers.new) result }
+    ensures { Performs of_pairs (H.meaning h.now) (beside_marks (points_by scheme)) depth calls.now (handed (map of_pairs.arrives values.old) slots.old answers.old) (handed (map of_pairs.arrives values.new) slots.new answers.new) result }
 {
     let mut pairs: Vec<Pair<Point, Marks>> = read_all(heap, values)?;
     run_copied(

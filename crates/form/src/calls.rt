@@ -26,7 +26,7 @@ impl<'f, H: Hierarchy, S: Scheme> Form<'f, H, S> {
         slots: &[Slot<S::Value>],
         depth: usize,
     ) -> Result<Form<'f, H, S>, Refusal>
-        ensures { MatchResult result (λ form. Opened (meaning hierarchy.now) (rule S.Scheme S.Value.ValueKind scheme.now) (S.Scheme.uniform scheme.now) depth (lending form.state points.now slots.now) × (form.hierarchy ≡ hierarchy.entry) × (form.scheme ≡ scheme.entry)) (λ e. opening_verdict (meaning hierarchy.now) (S.Scheme.uniform scheme.now) (length points.now) (length slots.now) depth ≡ Err e) }
+        ensures { MatchResult result (λ form. Opened (H.meaning hierarchy.now) (rule S.Scheme S.Value.ValueKind scheme.now) (S.Scheme.uniform scheme.now) depth (lending form.state points.now slots.now) × (form.hierarchy ≡ hierarchy.entry) × (form.scheme ≡ scheme.entry)) (λ e. opening_verdict (H.meaning hierarchy.now) (S.Scheme.uniform scheme.now) (length points.now) (length slots.now) depth ≡ Err e) }
     {
         check_opening(hierarchy, scheme, points.len(), slots.len(), depth)?;
         let state = State {
@@ -54,7 +54,7 @@ impl<'f, H: Hierarchy, S: Scheme> Form<'f, H, S> {
         points: &mut [S::Value],
         slots: &[Slot<S::Value>],
     ) -> Result<usize, Refusal>
-        ensures call { Kept (meaning self.old.hierarchy.now) (rule S.Scheme S.Value.ValueKind self.old.scheme.now) Analyse (lending self.old.state points.old slots.now) (depth_answer result) (lending self.new.state points.new slots.now) }
+        ensures call { Kept (H.meaning self.old.hierarchy.now) (rule S.Scheme S.Value.ValueKind self.old.scheme.now) Analyse (lending self.old.state points.old slots.now) (depth_answer result) (lending self.new.state points.new slots.now) }
         ensures hierarchy { self.new.hierarchy ≡ self.old.hierarchy }
         ensures scheme { self.new.scheme ≡ self.old.scheme }
     {
@@ -71,7 +71,7 @@ impl<'f, H: Hierarchy, S: Scheme> Form<'f, H, S> {
         points: &mut [S::Value],
         slots: &[Slot<S::Value>],
     ) -> Result<usize, Refusal>
-        ensures call { Kept (meaning self.old.hierarchy.now) (rule S.Scheme S.Value.ValueKind self.old.scheme.now) Synthesise (lending self.old.state points.old slots.now) (depth_answer result) (lending self.new.state points.new slots.now) }
+        ensures call { Kept (H.meaning self.old.hierarchy.now) (rule S.Scheme S.Value.ValueKind self.old.scheme.now) Synthesise (lending self.old.state points.old slots.now) (depth_answer result) (lending self.new.state points.new slots.now) }
         ensures hierarchy { self.new.hierarchy ≡ self.old.hierarchy }
         ensures scheme { self.new.scheme ≡ self.old.scheme }
     {
@@ -96,7 +96,7 @@ impl<'f, H: Hierarchy, S: Scheme> Form<'f, H, S> {
         place: usize,
         amount: S::Value,
     ) -> Result<usize, Refusal>
-        ensures call { Kept (meaning self.old.hierarchy.now) (rule S.Scheme S.Value.ValueKind self.old.scheme.now) (Move place amount) (lending self.old.state points.old slots.old) (count_answer result) (lending self.new.state points.new slots.new) }
+        ensures call { Kept (H.meaning self.old.hierarchy.now) (rule S.Scheme S.Value.ValueKind self.old.scheme.now) (Move place amount) (lending self.old.state points.old slots.old) (count_answer result) (lending self.new.state points.new slots.new) }
         ensures hierarchy { self.new.hierarchy ≡ self.old.hierarchy }
         ensures scheme { self.new.scheme ≡ self.old.scheme }
     {
@@ -124,7 +124,7 @@ impl<'f, H: Hierarchy, S: Scheme> Form<'f, H, S> {
         points: &mut [S::Value],
         slots: &[Slot<S::Value>],
     ) -> Result<usize, Refusal>
-        ensures call { Kept (meaning self.old.hierarchy.now) (rule S.Scheme S.Value.ValueKind self.old.scheme.now) TakeBack (lending self.old.state points.old slots.now) (count_answer result) (lending self.new.state points.new slots.now) }
+        ensures call { Kept (H.meaning self.old.hierarchy.now) (rule S.Scheme S.Value.ValueKind self.old.scheme.now) TakeBack (lending self.old.state points.old slots.now) (count_answer result) (lending self.new.state points.new slots.now) }
         ensures hierarchy { self.new.hierarchy ≡ self.old.hierarchy }
         ensures scheme { self.new.scheme ≡ self.old.scheme }
     {
@@ -146,7 +146,7 @@ impl<'f, H: Hierarchy, S: Scheme> Form<'f, H, S> {
         slots: &[Slot<S::Value>],
         place: usize,
     ) -> Result<S::Value, Refusal>
-        ensures { Kept (meaning self.now.hierarchy.now) (rule S.Scheme S.Value.ValueKind self.now.scheme.now) (Read place) (lending self.now.state points.now slots.now) (value_answer result) (lending self.now.state points.now slots.now) }
+        ensures { Kept (H.meaning self.now.hierarchy.now) (rule S.Scheme S.Value.ValueKind self.now.scheme.now) (Read place) (lending self.now.state points.now slots.now) (value_answer result) (lending self.now.state points.now slots.now) }
     {
         check(
             self.hierarchy,

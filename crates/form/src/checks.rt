@@ -15,7 +15,7 @@ const MOST_SLOTS: usize = 4096;
 
 // How many places there are.
 fn places<H: Hierarchy>(h: &H) -> usize
-    ensures { result ≡ (meaning h.now).vertices (meaning h.now).levels }
+    ensures { result ≡ (H.meaning h.now).vertices (H.meaning h.now).levels }
 {
     h.vertices(h.levels())
 }
@@ -27,7 +27,7 @@ pub(crate) fn check_opening<H: Hierarchy, S: Scheme>(
     slots: usize,
     depth: usize,
 ) -> Result<(), Refusal>
-    ensures { result ≡ opening_verdict (meaning h.now) (S.Scheme.uniform s.now) points slots depth }
+    ensures { result ≡ opening_verdict (H.meaning h.now) (S.Scheme.uniform s.now) points slots depth }
 {
     if s.needs_uniform() && !is_uniform(h) {
         return Err(Refusal::NotUniform);
@@ -45,7 +45,7 @@ pub(crate) fn check_opening<H: Hierarchy, S: Scheme>(
 }
 
 fn check_lent<H: Hierarchy>(h: &H, state: State, points: usize, slots: usize) -> Result<(), Refusal>
-    ensures { result ≡ lent_verdict (meaning h.now) state points slots }
+    ensures { result ≡ lent_verdict (H.meaning h.now) state points slots }
 {
     if points != places(h) {
         return Err(Refusal::WrongLength(points));
@@ -61,7 +61,7 @@ fn check_request<H: Hierarchy, V: Copy>(
     state: State,
     request: Request<V>,
 ) -> Result<(), Refusal>
-    ensures { result ≡ request_verdict (meaning h.now) state request }
+    ensures { result ≡ request_verdict (H.meaning h.now) state request }
 {
     match request {
         Request::Analyse if state.depth == 0 => Err(Refusal::NoSuchDepth(state.depth)),
@@ -84,7 +84,7 @@ fn check_call<H: Hierarchy, V: Copy>(
     slots: usize,
     request: Request<V>,
 ) -> Result<(), Refusal>
-    ensures { result ≡ call_verdict (meaning h.now) state points slots request }
+    ensures { result ≡ call_verdict (H.meaning h.now) state points slots request }
 {
     check_lent(h, state, points, slots)?;
     // no opened form stands above the finest depth
@@ -100,7 +100,7 @@ fn check_slot<H: Hierarchy, V: ValueKind>(
     slots: &[Slot<V>],
     last: usize,
 ) -> Result<(), Refusal>
-    ensures { result ≡ unless_passed (names (meaning h.now) (slice_index_or slots.now last (no_slot (meaning h.now) V.ValueKind.zero))) (SpoiledSlot last) }
+    ensures { result ≡ unless_passed (names (H.meaning h.now) (slice_index_or slots.now last (no_slot (H.meaning h.now) V.ValueKind.zero))) (SpoiledSlot last) }
 {
     if last >= slots.len() {
         return Err(Refusal::SpoiledSlot(last));
@@ -119,7 +119,7 @@ pub(crate) fn check<H: Hierarchy, V: ValueKind>(
     slots: &[Slot<V>],
     request: Request<V>,
 ) -> Result<(), Refusal>
-    ensures { result ≡ memory_verdict (meaning h.now) V.ValueKind.zero (lending state points.now slots.now) request }
+    ensures { result ≡ memory_verdict (H.meaning h.now) V.ValueKind.zero (lending state points.now slots.now) request }
 {
     check_call(h, state, points.len(), slots.len(), request)?;
     match request {

@@ -20,7 +20,7 @@ impl<'f, H: Hierarchy, S: Scheme> Form<'f, H, S> {
         slots: &mut [Slot<S::Value>],
         request: Request<S::Value>,
     ) -> Answer<S::Value>
-        ensures call { Kept (meaning self.old.hierarchy.now) (rule S.Scheme S.Value.ValueKind self.old.scheme.now) request (lending self.old.state points.old slots.old) result (lending self.new.state points.new slots.new) }
+        ensures call { Kept (H.meaning self.old.hierarchy.now) (rule S.Scheme S.Value.ValueKind self.old.scheme.now) request (lending self.old.state points.old slots.old) result (lending self.new.state points.new slots.new) }
         ensures hierarchy { self.new.hierarchy ≡ self.old.hierarchy }
         ensures scheme { self.new.scheme ≡ self.old.scheme }
     {
@@ -42,7 +42,7 @@ impl<'f, H: Hierarchy, S: Scheme> Form<'f, H, S> {
         slots: &mut [Slot<S::Value>],
         call: Call<S::Value>,
     ) -> Answer<S::Value>
-        ensures call { (h : History S.Value) → Stands (meaning self.old.hierarchy.now) (rule S.Scheme S.Value.ValueKind self.old.scheme.now) (lending self.old.state points.old slots.old) h → Made (meaning self.old.hierarchy.now) (rule S.Scheme S.Value.ValueKind self.old.scheme.now) h call slots.old result (lending self.new.state points.new slots.new) }
+        ensures call { (h : History S.Value) → Stands (H.meaning self.old.hierarchy.now) (rule S.Scheme S.Value.ValueKind self.old.scheme.now) (lending self.old.state points.old slots.old) h → Made (H.meaning self.old.hierarchy.now) (rule S.Scheme S.Value.ValueKind self.old.scheme.now) h call slots.old result (lending self.new.state points.new slots.new) }
         ensures hierarchy { self.new.hierarchy ≡ self.old.hierarchy }
         ensures scheme { self.new.scheme ≡ self.old.scheme }
     {
@@ -66,7 +66,7 @@ pub fn perform<'f, H: Hierarchy, S: Scheme>(
     calls: &[Call<S::Value>],
     answers: &mut [Answer<S::Value>],
 ) -> Result<usize, Refusal>
-    ensures { Promise (meaning h.now) (rule S.Scheme S.Value.ValueKind s.now) (S.Scheme.uniform s.now) depth calls.now (lent_to points.old slots.old answers.old) (lent_to points.new slots.new answers.new) result }
+    ensures { Promise (H.meaning h.now) (rule S.Scheme S.Value.ValueKind s.now) (S.Scheme.uniform s.now) depth calls.now (lent_to points.old slots.old answers.old) (lent_to points.new slots.new answers.new) result }
 {
     let mut form = Form::open(h, s, points, slots, depth)?;
     let count = calls.len().min(answers.len());

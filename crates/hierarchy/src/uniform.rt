@@ -6,7 +6,7 @@ use crate::interface::Hierarchy;
 
 // Whether no edge of the level is a curve.
 fn no_curves<H: Hierarchy>(h: &H, level: usize) -> bool
-    ensures { result ≡ smooth_edges (meaning h.now) level }
+    ensures { result ≡ smooth_edges (H.meaning h.now) level }
 {
     for edge in 0..h.edges(level) {
         if h.is_curve(level, edge) {
@@ -18,7 +18,7 @@ fn no_curves<H: Hierarchy>(h: &H, level: usize) -> bool
 
 // Whether all vertices of the level have this dimension.
 fn all_have<H: Hierarchy>(h: &H, level: usize, dimension: u8) -> bool
-    ensures { result ≡ all_of_dimension (meaning h.now) level dimension }
+    ensures { result ≡ all_of_dimension (H.meaning h.now) level dimension }
 {
     for vertex in 0..h.vertices(level) {
         if h.dimension(level, vertex) != dimension {
@@ -29,13 +29,13 @@ fn all_have<H: Hierarchy>(h: &H, level: usize, dimension: u8) -> bool
 }
 
 fn is_uniform_level<H: Hierarchy>(h: &H, level: usize) -> bool
-    ensures { result ≡ uniform_level (meaning h.now) level }
+    ensures { result ≡ uniform_level (H.meaning h.now) level }
 {
     (no_curves(h, level) && all_have(h, level, 2)) || (h.faces(level) == 0 && all_have(h, level, 1))
 }
 
 pub fn is_uniform<H: Hierarchy>(h: &H) -> bool
-    ensures { result ≡ uniform (meaning h.now) }
+    ensures { result ≡ uniform (H.meaning h.now) }
 {
     for level in 0..h.levels() {
         if !is_uniform_level(h, level) {

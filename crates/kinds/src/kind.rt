@@ -25,9 +25,9 @@ pub trait ValueKind: Copy {
 
 // Takes back the amount that was added last. It gives the value that stood there before, and adding the amount again undoes it.
 pub fn taken_back<V: ValueKind>(value: V, amount: V) -> V
-    ensures value { result ≡ plus value (opposite amount) }
-    ensures before { (old : V) → value ≡ plus old amount → result ≡ old }
-    ensures again { plus result amount ≡ value }
+    ensures value { result ≡ V.plus value (V.opposite amount) }
+    ensures before { (old : V) → value ≡ V.plus old amount → result ≡ old }
+    ensures again { V.plus result amount ≡ value }
 {
     value.plus(amount.opposite())
 }

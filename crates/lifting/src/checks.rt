@@ -7,7 +7,7 @@ use refusal::Refusal;
 
 // Refuses values of another length than there are finest vertices, and a level that is not below the finest.
 pub(crate) fn check_level<H: Hierarchy>(h: &H, given: usize, level: usize) -> Result<(), Refusal>
-    ensures { result ≡ at_level (meaning h.now) given level }
+    ensures { result ≡ at_level (H.meaning h.now) given level }
 {
     if given != h.vertices(h.levels()) {
         return Err(Refusal::WrongLength(given));
@@ -25,7 +25,7 @@ pub(crate) fn check_depths<H: Hierarchy>(
     from: usize,
     to: usize,
 ) -> Result<(), Refusal>
-    ensures { result ≡ between_depths (meaning h.now) given from to }
+    ensures { result ≡ between_depths (H.meaning h.now) given from to }
 {
     if given != h.vertices(h.levels()) {
         return Err(Refusal::WrongLength(given));

@@ -12,9 +12,9 @@ use kinds::ValueKind;
 use schemes::{Class, Scheme, Step};
 
 fn layout<H: Hierarchy>(h: &H, level: usize) -> Layout
-    requires { level < (meaning h.now).levels }
+    requires { level < (H.meaning h.now).levels }
     ensures level { result.level ≡ level }
-    ensures laid { Laid (meaning h.now) result ((meaning h.now).vertices (meaning h.now).levels) }
+    ensures laid { Laid (H.meaning h.now) result ((H.meaning h.now).vertices (H.meaning h.now).levels) }
 {
     let edges = h.vertices(level);
     Layout {
@@ -25,7 +25,7 @@ fn layout<H: Hierarchy>(h: &H, level: usize) -> Layout
 }
 
 fn count<H: Hierarchy>(h: &H, level: usize, class: Class) -> usize
-    ensures { result ≡ count_of (meaning h.now) level class }
+    ensures { result ≡ count_of (H.meaning h.now) level class }
 {
     match class {
         Class::Vertex => h.vertices(level),
@@ -61,9 +61,9 @@ pub(crate) fn change<H: Hierarchy, S: Scheme>(
     level: usize,
     class: Class,
 )
-    requires level { level < (meaning h.now).levels }
-    requires whole { length values.old ≡ (meaning h.now).vertices (meaning h.now).levels }
-    ensures { values.new ≡ half (meaning h.now) (rule S.Scheme S.Value.ValueKind s.now) way level (step, class) values.old }
+    requires level { level < (H.meaning h.now).levels }
+    requires whole { length values.old ≡ (H.meaning h.now).vertices (H.meaning h.now).levels }
+    ensures { values.new ≡ half (H.meaning h.now) (rule S.Scheme S.Value.ValueKind s.now) way level (step, class) values.old }
 {
     if s.is_idle(step) {
         return;

@@ -11,10 +11,10 @@ use refusal::Refusal;
 use schemes::Scheme;
 
 fn descend<H: Hierarchy, S: Scheme>(h: &H, s: &S, values: &mut [S::Value], from: usize, to: usize)
-    requires depth { from ≤ (meaning h.now).levels }
+    requires depth { from ≤ (H.meaning h.now).levels }
     requires down { to ≤ from }
-    requires whole { length values.old ≡ (meaning h.now).vertices (meaning h.now).levels }
-    ensures { values.new ≡ descended (meaning h.now) (rule S.Scheme S.Value.ValueKind s.now) from to values.old }
+    requires whole { length values.old ≡ (H.meaning h.now).vertices (H.meaning h.now).levels }
+    ensures { values.new ≡ descended (H.meaning h.now) (rule S.Scheme S.Value.ValueKind s.now) from to values.old }
 {
     for level in (to..from).rev() {
         analyse(h, s, values, level);
@@ -22,10 +22,10 @@ fn descend<H: Hierarchy, S: Scheme>(h: &H, s: &S, values: &mut [S::Value], from:
 }
 
 fn climb<H: Hierarchy, S: Scheme>(h: &H, s: &S, values: &mut [S::Value], from: usize, to: usize)
-    requires depth { to ≤ (meaning h.now).levels }
+    requires depth { to ≤ (H.meaning h.now).levels }
     requires up { from ≤ to }
-    requires whole { length values.old ≡ (meaning h.now).vertices (meaning h.now).levels }
-    ensures { values.new ≡ climbed (meaning h.now) (rule S.Scheme S.Value.ValueKind s.now) from to values.old }
+    requires whole { length values.old ≡ (H.meaning h.now).vertices (H.meaning h.now).levels }
+    ensures { values.new ≡ climbed (H.meaning h.now) (rule S.Scheme S.Value.ValueKind s.now) from to values.old }
 {
     for level in from..to {
         synthesise(h, s, values, level);
@@ -33,10 +33,10 @@ fn climb<H: Hierarchy, S: Scheme>(h: &H, s: &S, values: &mut [S::Value], from: u
 }
 
 fn go<H: Hierarchy, S: Scheme>(h: &H, s: &S, values: &mut [S::Value], from: usize, to: usize)
-    requires from { from ≤ (meaning h.now).levels }
-    requires to { to ≤ (meaning h.now).levels }
-    requires whole { length values.old ≡ (meaning h.now).vertices (meaning h.now).levels }
-    ensures { values.new ≡ travelled (meaning h.now) (rule S.Scheme S.Value.ValueKind s.now) from to values.old }
+    requires from { from ≤ (H.meaning h.now).levels }
+    requires to { to ≤ (H.meaning h.now).levels }
+    requires whole { length values.old ≡ (H.meaning h.now).vertices (H.meaning h.now).levels }
+    ensures { values.new ≡ travelled (H.meaning h.now) (rule S.Scheme S.Value.ValueKind s.now) from to values.old }
 {
     if to <= from {
         descend(h, s, values, from, to);
@@ -53,10 +53,10 @@ pub fn travel<H: Hierarchy, S: Scheme>(
     from: usize,
     to: usize,
 ) -> Result<(), Refusal>
-    ensures result { result ≡ between_depths (meaning h.now) (length values.old) from to }
-    ensures values { values.new ≡ unless_refused result (travelled (meaning h.now) (rule S.Scheme S.Value.ValueKind s.now) from to values.old) values.old }
-    ensures straight { Straight (meaning h.now) (rule S.Scheme S.Value.ValueKind s.now) }
-    ensures returned { Returned (meaning h.now) (rule S.Scheme S.Value.ValueKind s.now) }
+    ensures result { result ≡ between_depths (H.meaning h.now) (length values.old) from to }
+    ensures values { values.new ≡ unless_refused result (travelled (H.meaning h.now) (rule S.Scheme S.Value.ValueKind s.now) from to values.old) values.old }
+    ensures straight { Straight (H.meaning h.now) (rule S.Scheme S.Value.ValueKind s.now) }
+    ensures returned { Returned (H.meaning h.now) (rule S.Scheme S.Value.ValueKind s.now) }
 {
     check_depths(h, values.len(), from, to)?;
     go(h, s, values, from, to);

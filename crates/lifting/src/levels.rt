@@ -13,9 +13,9 @@ use refusal::Refusal;
 use schemes::{Class, Scheme, Step};
 
 pub(crate) fn analyse<H: Hierarchy, S: Scheme>(h: &H, s: &S, values: &mut [S::Value], level: usize)
-    requires level { level < (meaning h.now).levels }
-    requires whole { length values.old ≡ (meaning h.now).vertices (meaning h.now).levels }
-    ensures { values.new ≡ analysed (meaning h.now) (rule S.Scheme S.Value.ValueKind s.now) level values.old }
+    requires level { level < (H.meaning h.now).levels }
+    requires whole { length values.old ≡ (H.meaning h.now).vertices (H.meaning h.now).levels }
+    ensures { values.new ≡ analysed (H.meaning h.now) (rule S.Scheme S.Value.ValueKind s.now) level values.old }
 {
     change(h, s, values, Way::Down, Step::First, level, Class::Vertex);
     change(h, s, values, Way::Down, Step::First, level, Class::Edge);
@@ -31,9 +31,9 @@ pub(crate) fn synthesise<H: Hierarchy, S: Scheme>(
     values: &mut [S::Value],
     level: usize,
 )
-    requires level { level < (meaning h.now).levels }
-    requires whole { length values.old ≡ (meaning h.now).vertices (meaning h.now).levels }
-    ensures { values.new ≡ synthesised (meaning h.now) (rule S.Scheme S.Value.ValueKind s.now) level values.old }
+    requires level { level < (H.meaning h.now).levels }
+    requires whole { length values.old ≡ (H.meaning h.now).vertices (H.meaning h.now).levels }
+    ensures { values.new ≡ synthesised (H.meaning h.now) (rule S.Scheme S.Value.ValueKind s.now) level values.old }
 {
     change(h, s, values, Way::Up, Step::Third, level, Class::Edge);
     change(h, s, values, Way::Up, Step::Third, level, Class::Vertex);
@@ -50,10 +50,10 @@ pub fn analyse_level<H: Hierarchy, S: Scheme>(
     values: &mut [S::Value],
     level: usize,
 ) -> Result<(), Refusal>
-    ensures result { result ≡ at_level (meaning h.now) (length values.old) level }
-    ensures values { values.new ≡ unless_refused result (analysed (meaning h.now) (rule S.Scheme S.Value.ValueKind s.now) level values.old) values.old }
-    ensures undone { Undone (meaning h.now) (rule S.Scheme S.Value.ValueKind s.now) level }
-    ensures equations { LiftingEquations (meaning h.now) level }
+    ensures result { result ≡ at_level (H.meaning h.now) (length values.old) level }
+    ensures values { values.new ≡ unless_refused result (analysed (H.meaning h.now) (rule S.Scheme S.Value.ValueKind s.now) level values.old) values.old }
+    ensures undone { Undone (H.meaning h.now) (rule S.Scheme S.Value.ValueKind s.now) level }
+    ensures equations { LiftingEquations (H.meaning h.now) level }
 {
     check_level(h, values.len(), level)?;
     analyse(h, s, values, level);
@@ -67,10 +67,10 @@ pub fn synthesise_level<H: Hierarchy, S: Scheme>(
     values: &mut [S::Value],
     level: usize,
 ) -> Result<(), Refusal>
-    ensures result { result ≡ at_level (meaning h.now) (length values.old) level }
-    ensures values { values.new ≡ unless_refused result (synthesised (meaning h.now) (rule S.Scheme S.Value.ValueKind s.now) level values.old) values.old }
-    ensures undone { Undone (meaning h.now) (rule S.Scheme S.Value.ValueKind s.now) level }
-    ensures equations { LiftingEquations (meaning h.now) level }
+    ensures result { result ≡ at_level (H.meaning h.now) (length values.old) level }
+    ensures values { values.new ≡ unless_refused result (synthesised (H.meaning h.now) (rule S.Scheme S.Value.ValueKind s.now) level values.old) values.old }
+    ensures undone { Undone (H.meaning h.now) (rule S.Scheme S.Value.ValueKind s.now) level }
+    ensures equations { LiftingEquations (H.meaning h.now) level }
 {
     check_level(h, values.len(), level)?;
     synthesise(h, s, values, level);

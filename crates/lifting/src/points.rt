@@ -23,8 +23,8 @@ pub fn analyse_points<H: Hierarchy>(
     points: &mut [Point],
     level: usize,
 ) -> Result<(), Refusal>
-    ensures result { result ≡ at_level (meaning h.now) (length points.old) level }
-    ensures equations { MatchResult result (λ _. Analysis (meaning h.now) level (factors scheme) points.old points.new) (λ _. points.new ≡ points.old) }
+    ensures result { result ≡ at_level (H.meaning h.now) (length points.old) level }
+    ensures equations { MatchResult result (λ _. Analysis (H.meaning h.now) level (factors scheme) points.old points.new) (λ _. points.new ≡ points.old) }
 {
     match scheme {
         Spline::Linear => analyse_level(h, &Linear, points, level),
@@ -38,8 +38,8 @@ pub fn synthesise_points<H: Hierarchy>(
     points: &mut [Point],
     level: usize,
 ) -> Result<(), Refusal>
-    ensures result { result ≡ at_level (meaning h.now) (length points.old) level }
-    ensures equations { MatchResult result (λ _. Synthesis (meaning h.now) level (factors scheme) points.old points.new) (λ _. points.new ≡ points.old) }
+    ensures result { result ≡ at_level (H.meaning h.now) (length points.old) level }
+    ensures equations { MatchResult result (λ _. Synthesis (H.meaning h.now) level (factors scheme) points.old points.new) (λ _. points.new ≡ points.old) }
 {
     match scheme {
         Spline::Linear => synthesise_level(h, &Linear, points, level),

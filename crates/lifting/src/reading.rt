@@ -36,7 +36,7 @@ fn target(link: Link) -> Class
 
 // Whether a listed number is read, where curves alone may be asked for.
 fn is_read<H: Hierarchy>(h: &H, level: usize, number: usize, curves_only: bool) -> bool
-    ensures { result ≡ cond curves_only ((meaning h.now).curve level number) true }
+    ensures { result ≡ cond curves_only ((H.meaning h.now).curve level number) true }
 {
     if curves_only {
         h.is_curve(level, number)
@@ -56,8 +56,8 @@ fn gather<H: Hierarchy, S: Scheme>(
     curves_only: bool,
     start: S::Sum,
 ) -> S::Sum
-    requires { Laid (meaning h.now) at (length values.now) }
-    ensures { (q : Reads S.Value) → S.Scheme.holds start (with_read (target_class link) [] q) → S.Scheme.holds result (with_read (target_class link) (values_of (meaning h.now) S.Value.ValueKind.zero values.now at.level (target_class link) (chosen curves_only ((meaning h.now).curve at.level) ((meaning h.now).list at.level link of))) q) }
+    requires { Laid (H.meaning h.now) at (length values.now) }
+    ensures { (q : Reads S.Value) → S.Scheme.holds start (with_read (target_class link) [] q) → S.Scheme.holds result (with_read (target_class link) (values_of (H.meaning h.now) S.Value.ValueKind.zero values.now at.level (target_class link) (chosen curves_only ((H.meaning h.now).curve at.level) ((H.meaning h.now).list at.level link of))) q) }
 {
     let class = target(link);
     let from = first(at, class);
@@ -84,8 +84,8 @@ fn s_lift_vertex<H: Hierarchy, S: Scheme>(
     step: Step,
     vertex: usize,
 ) -> S::Value
-    requires { Laid (meaning h.now) at (length values.now) }
-    ensures { result ≡ amount_from (meaning h.now) (rule S.Scheme S.Value.ValueKind s.now) step at.level Vertex vertex (s_lift_reads (meaning h.now) at.level Vertex vertex) values.now }
+    requires { Laid (H.meaning h.now) at (length values.now) }
+    ensures { result ≡ amount_from (H.meaning h.now) (rule S.Scheme S.Value.ValueKind s.now) step at.level Vertex vertex (s_lift_reads (H.meaning h.now) at.level Vertex vertex) values.now }
 {
     match h.dimension(at.level, vertex) {
         2 => {
@@ -119,8 +119,8 @@ fn s_lift_edge<H: Hierarchy, S: Scheme>(
     step: Step,
     edge: usize,
 ) -> S::Value
-    requires { Laid (meaning h.now) at (length values.now) }
-    ensures { result ≡ amount_from (meaning h.now) (rule S.Scheme S.Value.ValueKind s.now) step at.level Edge edge (s_lift_reads (meaning h.now) at.level Edge edge) values.now }
+    requires { Laid (H.meaning h.now) at (length values.now) }
+    ensures { result ≡ amount_from (H.meaning h.now) (rule S.Scheme S.Value.ValueKind s.now) step at.level Edge edge (s_lift_reads (H.meaning h.now) at.level Edge edge) values.now }
 {
     if h.is_curve(at.level, edge) {
         return s.amount(step, Class::Edge, 1, s.start());
@@ -137,8 +137,8 @@ fn w_lift_face<H: Hierarchy, S: Scheme>(
     at: Layout,
     face: usize,
 ) -> S::Value
-    requires { Laid (meaning h.now) at (length values.now) }
-    ensures { result ≡ amount_from (meaning h.now) (rule S.Scheme S.Value.ValueKind s.now) Second at.level Face face (w_lift_reads (meaning h.now) at.level Face face) values.now }
+    requires { Laid (H.meaning h.now) at (length values.now) }
+    ensures { result ≡ amount_from (H.meaning h.now) (rule S.Scheme S.Value.ValueKind s.now) Second at.level Face face (w_lift_reads (H.meaning h.now) at.level Face face) values.now }
 {
     let vertices = gather(h, s, values, at, Link::FaceVertices, face, false, s.start());
     let sum = gather(h, s, values, at, Link::FaceEdges, face, false, vertices);
@@ -146,7 +146,7 @@ fn w_lift_face<H: Hierarchy, S: Scheme>(
 }
 
 fn edge_dimension<H: Hierarchy>(h: &H, level: usize, edge: usize) -> u8
-    ensures { result ≡ dimension_of (meaning h.now) level Edge edge }
+    ensures { result ≡ dimension_of (H.meaning h.now) level Edge edge }
 {
     if h.is_curve(level, edge) { 1 } else { 2 }
 }
@@ -159,8 +159,8 @@ fn w_lift_edge<H: Hierarchy, S: Scheme>(
     at: Layout,
     edge: usize,
 ) -> S::Value
-    requires { Laid (meaning h.now) at (length values.now) }
-    ensures { result ≡ amount_from (meaning h.now) (rule S.Scheme S.Value.ValueKind s.now) Second at.level Edge edge (w_lift_reads (meaning h.now) at.level Edge edge) values.now }
+    requires { Laid (H.meaning h.now) at (length values.now) }
+    ensures { result ≡ amount_from (H.meaning h.now) (rule S.Scheme S.Value.ValueKind s.now) Second at.level Edge edge (w_lift_reads (H.meaning h.now) at.level Edge edge) values.now }
 {
     let ends = gather(h, s, values, at, Link::EdgeEnds, edge, false, s.start());
     s.amount(
@@ -181,8 +181,8 @@ pub(crate) fn amount<H: Hierarchy, S: Scheme>(
     class: Class,
     number: usize,
 ) -> S::Value
-    requires { Laid (meaning h.now) at (length values.now) }
-    ensures { result ≡ amount_at (meaning h.now) (rule S.Scheme S.Value.ValueKind s.now) step at.level class number values.now }
+    requires { Laid (H.meaning h.now) at (length values.now) }
+    ensures { result ≡ amount_at (H.meaning h.now) (rule S.Scheme S.Value.ValueKind s.now) step at.level class number values.now }
 {
     match (step, class) {
         (Step::First | Step::Third, Class::Vertex) => s_lift_vertex(h, s, values, at, step, number),

@@ -4,7 +4,7 @@ use Rattle.std.proofs.lemmas.List.{at_drop_more, at_drop_all}
 use Rattle.mesh.specs.Shape.{with_side, edge_of, nowhere}
 use Rattle.base.proofs.Steps.{with_known, with_new}
 use Rattle.base.proofs.corners.number_edges.Goals as goal
-use Rattle.base.proofs.corners.number_edges.Goals.{then-is-none+in-ok-push, else-is-none}
+use Rattle.base.proofs.corners.number_edges.Goals.{then-is_none+in_ok-push, else-is_none}
 
 pub loop-side-preserved : goal.loop-side-preserved
 loop-side-preserved c =
@@ -12,10 +12,10 @@ loop-side-preserved c =
     let s = get_or c.args.sides.now c.loop-side.side-index nowhere in
     let step = at_drop_more (fold with_side es) c.args.sides.now c.loop-side.side-index nowhere c.loop-side-test.true in
     let on = λ (l : List Side). fold with_side l (drop (c.loop-side.side-index + 1) c.args.sides.now) in
-    let told : is_some (edge_of es s) ≡ not c.is-none.result = ap (λ l. is_some (edge_of l s)) (sym c.deref.ensures.value) ∙ ap is_some (sym c.find-edge.ensures) ∙ c.is-none.ensures in
-    elim c.if-is-none.branch [
-      | then-is-none+in-ok-push w ↦ ap (λ v. on (vec_items v)) w.edges-is ∙ ap on (w.in-ok-push.ensures.items ∙ sym (with_new es s (told ∙ ap not w.if-is-none.true))) ∙ sym step ∙ c.loop-side.invariant
-      | else-is-none w ↦ ap (λ v. on (vec_items v)) w.edges-is ∙ ap on (sym (with_known es s (told ∙ ap not w.if-is-none.false))) ∙ sym step ∙ c.loop-side.invariant
+    let told : is_some (edge_of es s) ≡ not c.is_none.result = ap (λ l. is_some (edge_of l s)) (sym c.deref.ensures.value) ∙ ap is_some (sym c.find_edge.ensures) ∙ c.is_none.ensures in
+    elim c.if-is_none.branch [
+      | then-is_none+in_ok-push w ↦ ap (λ v. on (vec_items v)) w.edges-is ∙ ap on (w.in_ok-push.ensures.items ∙ sym (with_new es s (told ∙ ap not w.if-is_none.true))) ∙ sym step ∙ c.loop-side.invariant
+      | else-is_none w ↦ ap (λ v. on (vec_items v)) w.edges-is ∙ ap on (sym (with_known es s (told ∙ ap not w.if-is_none.false))) ∙ sym step ∙ c.loop-side.invariant
     ]
 
 pub returns : goal.returns

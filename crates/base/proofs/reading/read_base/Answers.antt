@@ -10,37 +10,37 @@ use Rattle.base.proofs.Verdicts.{passed_on, stopped, trailed, whole}
 use Rattle.base.proofs.reading.read_base.Goals as goal
 use Rattle.base.proofs.reading.read_base.Goals.{After-judge, In-ok-curves}
 
-pub returns-in-err-draft : goal.returns-in-err-draft
-returns-in-err-draft c =
-    let p = err_from_is_err_and c.from-residual.result c.from-residual.ensures.1 in
-    rw (p.1, p.2) (passed_on c.in-err-draft.field-0.0 _ _ (stopped c.args.bytes.now) c.in-err-draft.ensures)
+pub returns-in_err-draft : goal.returns-in_err-draft
+returns-in_err-draft c =
+    let p = err_from_is_err_and c.from_residual.result c.from_residual.ensures.1 in
+    rw (p.1, p.2) (passed_on c.in_err-draft.field-0.0 _ _ (stopped c.args.bytes.now) c.in_err-draft.ensures)
 
-pub returns-then-not-is-empty : goal.returns-then-not-is-empty
-returns-then-not-is-empty c =
-    let left = c.in-ok-draft.ensures in
-    let some : length c.in-ok-draft.rest.now ≡ 0 → ⊥ = eqb-false _ 0 (sym c.if-not-is-empty.ensures) in
-    trailed c.args.bytes.now (drafted c.in-ok-draft.draft) c.in-ok-draft.rest.now left.value (omega arith) ∙ ap (λ n. Err (TrailingByte n)) (sym c.saturating-sub.ensures)
+pub returns-then-not-is_empty : goal.returns-then-not-is_empty
+returns-then-not-is_empty c =
+    let left = c.in_ok-draft.ensures in
+    let some : length c.in_ok-draft.rest.now ≡ 0 → ⊥ = eqb-false _ 0 (sym c.if-not-is_empty.ensures) in
+    trailed c.args.bytes.now (drafted c.in_ok-draft.draft) c.in_ok-draft.rest.now left.value (omega arith) ∙ ap (λ n. Err (TrailingByte n)) (sym c.saturating_sub.ensures)
 
-all_read : (c : After-judge) → reading c.args.bytes.now ≡ checked (finished (drafted c.in-ok-draft.draft))
+all_read : (c : After-judge) → reading c.args.bytes.now ≡ checked (finished (drafted c.in_ok-draft.draft))
 all_read c =
-    whole c.args.bytes.now (drafted c.in-ok-draft.draft) c.in-ok-draft.rest.now c.in-ok-draft.ensures.value (eqb-true _ 0 (sym c.if-not-is-empty.ensures))
+    whole c.args.bytes.now (drafted c.in_ok-draft.draft) c.in_ok-draft.rest.now c.in_ok-draft.ensures.value (eqb-true _ 0 (sym c.if-not-is_empty.ensures))
 
-pub returns-in-err-curves : goal.returns-in-err-curves
-returns-in-err-curves c =
-    let p = err_from_is_err_and c.from-residual-in-err-curves.result c.from-residual-in-err-curves.ensures.1 in
-    let same = all_read (goal.at.returns-in-err-curves c).After-judge in
-    rw (p.1, p.2) (passed_on c.in-err-curves.field-0.0 _ _ (λ x e. same ∙ e) c.in-err-curves.ensures)
+pub returns-in_err-curves : goal.returns-in_err-curves
+returns-in_err-curves c =
+    let p = err_from_is_err_and c.from_residual-in_err-curves.result c.from_residual-in_err-curves.ensures.1 in
+    let same = all_read (goal.at.returns-in_err-curves c).After-judge in
+    rw (p.1, p.2) (passed_on c.in_err-curves.field-0.0 _ _ (λ x e. same ∙ e) c.in_err-curves.ensures)
 
-given_shape : (c : In-ok-curves) → reading c.args.bytes.now ≡ checked (finished (drafted c.in-ok-draft.draft)) → reading c.args.bytes.now ≡ Ok (shaped (vec_items c.in-ok-draft.draft.dims) (vec_items c.in-ok-draft.draft.sizes) (vec_items c.in-ok-draft.draft.sides) (vec_items c.in-ok-curves.curves))
+given_shape : (c : In-ok-curves) → reading c.args.bytes.now ≡ checked (finished (drafted c.in_ok-draft.draft)) → reading c.args.bytes.now ≡ Ok (shaped (vec_items c.in_ok-draft.draft.dims) (vec_items c.in_ok-draft.draft.sizes) (vec_items c.in_ok-draft.draft.sides) (vec_items c.in_ok-curves.curves))
 given_shape c same =
-    let m = c.in-ok-draft.draft in
-    let judged = c.in-ok-curves.ensures in
+    let m = c.in_ok-draft.draft in
+    let judged = c.in_ok-curves.ensures in
     same ∙ judged.passes ∙ ap (λ (marks : List Bool). Ok (shaped (vec_items m.dims) (vec_items m.sizes) (vec_items m.sides) marks)) (sym judged.marking)
 
-pub invariant-of-result : goal.invariant-of-result
-invariant-of-result c =
-    let at = goal.at.invariant-of-result c in
-    let tied = c.in-ok-draft.ensures.tied in
+pub invariant_of-result : goal.invariant_of-result
+invariant_of-result c =
+    let at = goal.at.invariant_of-result c in
+    let tied = c.in_ok-draft.ensures.tied in
     (tied.total, (tied.sided, (tied.edged, (∣ (reads_writings c.args.bytes.now _ (given_shape at.In-ok-curves (all_read at.After-judge))).0 ∣₁, tt))))
 
 pub returns : goal.returns

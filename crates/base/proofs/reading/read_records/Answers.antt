@@ -7,29 +7,29 @@ use Rattle.base.specs.Views.{view}
 use Rattle.base.proofs.Turns.{none_left, cut_short, refused, ended, goes_on, not_end, failed}
 use Rattle.base.proofs.reading.read_records.Goals as goal
 
-pub returns-in-err-next : goal.returns-in-err-next
-returns-in-err-next c =
-    let p = err_from_is_err_and c.from-residual.result c.from-residual.ensures.1 in
-    let cut = cut_short (length c.args.bytes.now) c.loop-number.number (drafted c.loop-number.draft) c.loop-number.rest.now c.loop-number-test.true _ (sym c.in-err-next.ensures) in
+pub returns-in_err-next : goal.returns-in_err-next
+returns-in_err-next c =
+    let p = err_from_is_err_and c.from_residual.result c.from_residual.ensures.1 in
+    let cut = cut_short (length c.args.bytes.now) c.loop-number.number (drafted c.loop-number.draft) c.loop-number.rest.now c.loop-number-test.true _ (sym c.in_err-next.ensures) in
     rw (p.1, p.2) (sym c.loop-number.invariant.1 ∙ cut)
 
-pub returns-in-err-take : goal.returns-in-err-take
-returns-in-err-take c =
-    let p = err_from_is_err_and c.from-residual-in-err-take.result c.from-residual-in-err-take.ensures.1 in
-    let turned = refused (length c.args.bytes.now) c.loop-number.number (drafted c.loop-number.draft) c.loop-number.rest.now c.loop-number-test.true (view c.in-ok-next.next) c.in-ok-next.after.now (sym c.in-ok-next.ensures) in
-    rw (p.1, p.2) (failed c.in-err-take.field-0.0 _ _ c.in-err-take.ensures (λ x e. sym c.loop-number.invariant.1 ∙ turned x e))
+pub returns-in_err-take : goal.returns-in_err-take
+returns-in_err-take c =
+    let p = err_from_is_err_and c.from_residual-in_err-take.result c.from_residual-in_err-take.ensures.1 in
+    let turned = refused (length c.args.bytes.now) c.loop-number.number (drafted c.loop-number.draft) c.loop-number.rest.now c.loop-number-test.true (view c.in_ok-next.next) c.in_ok-next.after.now (sym c.in_ok-next.ensures) in
+    rw (p.1, p.2) (failed c.in_err-take.field-0.0 _ _ c.in_err-take.ensures (λ x e. sym c.loop-number.invariant.1 ∙ turned x e))
 
 pub returns-in-End : goal.returns-in-End
 returns-in-End c =
-    let taken = c.in-ok-take.ensures in
-    let done = ended (length c.args.bytes.now) c.loop-number.number (drafted c.loop-number.draft) c.loop-number.rest.now c.loop-number-test.true (view c.in-ok-next.next) c.in-ok-next.after.now (sym c.in-ok-next.ensures) taken.passed (ap view c.in-End.is) in
-    record { tied = taken.tied; value = sym c.loop-number.invariant.1 ∙ done ∙ ap (λ d. Ok (d, c.in-ok-next.after.now)) (ap (added (drafted c.loop-number.draft)) (sym (ap view c.in-End.is)) ∙ sym taken.value) }
+    let taken = c.in_ok-take.ensures in
+    let done = ended (length c.args.bytes.now) c.loop-number.number (drafted c.loop-number.draft) c.loop-number.rest.now c.loop-number-test.true (view c.in_ok-next.next) c.in_ok-next.after.now (sym c.in_ok-next.ensures) taken.passed (ap view c.in-End.is) in
+    record { tied = taken.tied; value = sym c.loop-number.invariant.1 ∙ done ∙ ap (λ d. Ok (d, c.in_ok-next.after.now)) (ap (added (drafted c.loop-number.draft)) (sym (ap view c.in-End.is)) ∙ sym taken.value) }
 
 pub loop-number-preserved : goal.loop-number-preserved
 loop-number-preserved c =
-    let taken = c.in-ok-take.ensures in
-    let on = goes_on (length c.args.bytes.now) c.loop-number.number (drafted c.loop-number.draft) c.loop-number.rest.now c.loop-number-test.true (view c.in-ok-next.next) c.in-ok-next.after.now (sym c.in-ok-next.ensures) taken.passed (not_end c.in-ok-next.next _ _ c.in-default.not-End) in
-    (taken.tied, ap (λ d. records (length c.args.bytes.now - (c.loop-number.number + 1)) (c.loop-number.number + 1) d c.in-ok-next.after.now) taken.value ∙ sym on ∙ c.loop-number.invariant.1)
+    let taken = c.in_ok-take.ensures in
+    let on = goes_on (length c.args.bytes.now) c.loop-number.number (drafted c.loop-number.draft) c.loop-number.rest.now c.loop-number-test.true (view c.in_ok-next.next) c.in_ok-next.after.now (sym c.in_ok-next.ensures) taken.passed (not_end c.in_ok-next.next _ _ c.in_default.not-End) in
+    (taken.tied, ap (λ d. records (length c.args.bytes.now - (c.loop-number.number + 1)) (c.loop-number.number + 1) d c.in_ok-next.after.now) taken.value ∙ sym on ∙ c.loop-number.invariant.1)
 
 pub returns : goal.returns
 returns c =

@@ -10,7 +10,7 @@ loop-edge-preserved c =
     let named = c.args.named.now in
     let e = c.loop-edge.edge-counter in
     let mark = occurs_from_contains named e c.contains.result c.contains.ensures.cases in
-    c.in-ok-push.ensures.items ∙ ap₂ (λ l (b : Bool). l ++ b ∷ []) c.loop-edge.invariant mark ∙ sym (map-range_with_len_more (λ k. occurs k named) 0 e e (omega arith))
+    c.in_ok-push.ensures.items ∙ ap₂ (λ l (b : Bool). l ++ b ∷ []) c.loop-edge.invariant mark ∙ sym (map-range_with_len_more (λ k. occurs k named) 0 e e (omega arith))
 
 pub returns : goal.returns
 returns c =

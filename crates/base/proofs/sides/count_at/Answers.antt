@@ -3,15 +3,15 @@ use Rattle.std.proofs.lemmas.List.{take_all}
 use Rattle.std.proofs.lemmas.List.Sums.{count_by_more_yes, count_by_more_no}
 use Rattle.mesh.specs.Shape.{touches, degree, nowhere}
 use Rattle.base.proofs.sides.count_at.Goals as goal
-use Rattle.base.proofs.sides.count_at.Goals.{then-ends-at, else-ends-at}
+use Rattle.base.proofs.sides.count_at.Goals.{then-ends_at, else-ends_at}
 
 pub loop-edge-preserved : goal.loop-edge-preserved
 loop-edge-preserved c =
     let more = count_by_more_yes (touches c.args.vertex) c.args.edges.now c.loop-edge.edge_index nowhere c.loop-edge-test.true in
     let same = count_by_more_no (touches c.args.vertex) c.args.edges.now c.loop-edge.edge_index nowhere c.loop-edge-test.true in
-    elim c.if-ends-at.branch [
-      | then-ends-at w ↦ (omega (arith, w.n-is), omega (arith, w.n-is, more (sym c.ends-at.ensures ∙ w.if-ends-at.true)))
-      | else-ends-at w ↦ (omega (arith, w.n-is), omega (arith, w.n-is, same (sym c.ends-at.ensures ∙ w.if-ends-at.false)))
+    elim c.if-ends_at.branch [
+      | then-ends_at w ↦ (omega (arith, w.n-is), omega (arith, w.n-is, more (sym c.ends_at.ensures ∙ w.if-ends_at.true)))
+      | else-ends_at w ↦ (omega (arith, w.n-is), omega (arith, w.n-is, same (sym c.ends_at.ensures ∙ w.if-ends_at.false)))
     ]
 
 pub returns : goal.returns

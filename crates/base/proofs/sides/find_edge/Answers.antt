@@ -3,10 +3,10 @@ use Rattle.mesh.specs.Shape.{joins, nowhere}
 use Rattle.mesh.proofs.Lowests.{lowest_some, lowest_none}
 use Rattle.base.proofs.sides.find_edge.Goals as goal
 
-pub returns-then-same-ends : goal.returns-then-same-ends
-returns-then-same-ends c =
+pub returns-then-same_ends : goal.returns-then-same_ends
+returns-then-same_ends c =
     sym (lowest_some (λ k. joins (get_or c.args.edges.now k nowhere) c.args.side) (length c.args.edges.now) c.loop-i.i
-    c.loop-i-test.true (sym c.if-same-ends.ensures) c.loop-i.invariant)
+    c.loop-i-test.true (sym c.if-same_ends.ensures) c.loop-i.invariant)
 
 pub returns : goal.returns
 returns c =

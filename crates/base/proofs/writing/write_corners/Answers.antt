@@ -10,7 +10,7 @@ use Rattle.base.proofs.writing.write_corners.Goals as goal
 pub loop-side-preserved : goal.loop-side-preserved
 loop-side-preserved c =
     let step = at_drop_more (λ ss. flat_map two_bytes (map (λ (s : Side). s.tail) ss)) c.args.sides.now c.loop-side.side-index nowhere c.loop-side-test.true in
-    appended _ _ _ _ (two_bytes (get_or c.args.sides.now c.loop-side.side-index nowhere).tail) c.in-ok-write-number.ensures step ∙ c.loop-side.invariant
+    appended _ _ _ _ (two_bytes (get_or c.args.sides.now c.loop-side.side-index nowhere).tail) c.in_ok-write_number.ensures step ∙ c.loop-side.invariant
 
 pub returns : goal.returns
 returns c =

@@ -10,8 +10,8 @@ pub loop-edge-preserved : goal.loop-edge-preserved
 loop-edge-preserved c =
     let step = at_drop_more (flat_map (λ s. bytes_of (curve s))) c.args.edges.now c.loop-edge.edge_index nowhere c.loop-edge-test.true in
     let e = get_or c.args.edges.now c.loop-edge.edge_index nowhere in
-    let begun = twice_appended (vec_items c.loop-edge.out) (vec_items c.push.new.self) (vec_items c.write-number.new.out) (2 ∷ []) (two_bytes e.tail) c.in-ok-push.ensures.items c.in-ok-write-number.ensures in
-    appended _ _ _ _ (bytes_of (curve e)) (twice_appended (vec_items c.loop-edge.out) (vec_items c.write-number.new.out) (vec_items c.write-number-in-loop-edge.new.out) (2 ∷ two_bytes e.tail) (two_bytes e.head) begun c.in-ok-write-number-2.ensures) step ∙ c.loop-edge.invariant
+    let begun = twice_appended (vec_items c.loop-edge.out) (vec_items c.push.new.self) (vec_items c.write_number.new.out) (2 ∷ []) (two_bytes e.tail) c.in_ok-push.ensures.items c.in_ok-write_number.ensures in
+    appended _ _ _ _ (bytes_of (curve e)) (twice_appended (vec_items c.loop-edge.out) (vec_items c.write_number.new.out) (vec_items c.write_number-in-loop-edge.new.out) (2 ∷ two_bytes e.tail) (two_bytes e.head) begun c.in_ok-write_number-2.ensures) step ∙ c.loop-edge.invariant
 
 pub returns : goal.returns
 returns c =

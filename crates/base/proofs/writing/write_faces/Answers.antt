@@ -10,11 +10,11 @@ use Rattle.base.proofs.Steps.{appended, twice_appended, all_appended}
 use Rattle.base.proofs.Written.{face_front}
 use Rattle.base.proofs.writing.write_faces.Goals as goal
 
-pub split-at-requires : goal.split-at-requires
-split-at-requires c = omega (arith, c.loop-size.invariant.0, sum_by-drop_more (λ (x : ℕ). x) c.args.sizes.now c.loop-size.size-index 0 c.loop-size-test.true)
+pub split_at-requires : goal.split_at-requires
+split_at-requires c = omega (arith, c.loop-size.invariant.0, sum_by-drop_more (λ (x : ℕ). x) c.args.sizes.now c.loop-size.size-index 0 c.loop-size-test.true)
 
-pub overflow-cast-size : goal.overflow-cast-size
-overflow-cast-size c =
+pub overflow_cast-size : goal.overflow_cast-size
+overflow_cast-size c =
     let small : get_or c.args.sizes.now c.loop-size.size-index 0 ≤ 8 = All-get_or (λ k. k ≤ 8) c.args.sizes.now c.loop-size.size-index 0 c.loop-size-test.true c.requires.short in
     search rules
 
@@ -23,13 +23,13 @@ loop-size-preserved c =
     let ks = c.args.sizes.now in
     let i = c.loop-size.size-index in
     let k = get_or ks i 0 in
-    let front = c.split-at.result.0.now in
+    let front = c.split_at.result.0.now in
     let total = sum_by-drop_more (λ (x : ℕ). x) ks i 0 c.loop-size-test.true in
     let corners = flat_map two_bytes (map (λ (s : Side). s.tail) front) in
     let inside : k ≤ length c.loop-size.rest.now = omega (arith, c.loop-size.invariant.0, total) in
-    let step = face_front ks i c.loop-size.rest.now front c.split-at.result.1.now c.loop-size-test.true inside c.split-at.ensures.front c.split-at.ensures.back in
-    let wrote = twice_appended (vec_items c.loop-size.out) (vec_items c.push.new.self) (vec_items c.write-corners.new.out) (k ∷ []) corners c.in-ok-push.ensures.items c.in-ok-write-corners.ensures in
-    (omega (arith, c.loop-size.invariant.0, total, c.split-at.ensures.back_len), appended _ _ _ _ (k ∷ corners) wrote step ∙ c.loop-size.invariant.1)
+    let step = face_front ks i c.loop-size.rest.now front c.split_at.result.1.now c.loop-size-test.true inside c.split_at.ensures.front c.split_at.ensures.back in
+    let wrote = twice_appended (vec_items c.loop-size.out) (vec_items c.push.new.self) (vec_items c.write_corners.new.out) (k ∷ []) corners c.in_ok-push.ensures.items c.in_ok-write_corners.ensures in
+    (omega (arith, c.loop-size.invariant.0, total, c.split_at.ensures.back_len), appended _ _ _ _ (k ∷ corners) wrote step ∙ c.loop-size.invariant.1)
 
 pub returns : goal.returns
 returns c =

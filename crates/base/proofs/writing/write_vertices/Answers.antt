@@ -9,7 +9,7 @@ pub loop-dimension-preserved : goal.loop-dimension-preserved
 loop-dimension-preserved c =
     let step = at_drop_more (flat_map (λ d. bytes_of (vertex d))) c.args.dims.now c.loop-dimension.dimension-index 0 c.loop-dimension-test.true in
     let d = get_or c.args.dims.now c.loop-dimension.dimension-index 0 in
-    appended _ _ _ _ (1 ∷ d ∷ []) (twice_appended (vec_items c.loop-dimension.out) (vec_items c.push.new.self) (vec_items c.push-in-loop-dimension.new.self) (1 ∷ []) (d ∷ []) c.in-ok-push.ensures.items c.in-ok-push-2.ensures.items) step ∙ c.loop-dimension.invariant
+    appended _ _ _ _ (1 ∷ d ∷ []) (twice_appended (vec_items c.loop-dimension.out) (vec_items c.push.new.self) (vec_items c.push-in-loop-dimension.new.self) (1 ∷ []) (d ∷ []) c.in_ok-push.ensures.items c.in_ok-push-2.ensures.items) step ∙ c.loop-dimension.invariant
 
 pub returns : goal.returns
 returns c =

@@ -6,4 +6,4 @@ pub loop-i-preserved : goal.loop-i-preserved
 loop-i-preserved g c =
     let here : c.loop-i.i < length c.args.items.now = omega arith in
     let room : c.loop-i.i < length c.args.records.now = omega arith in
-    rw c.made-from.ensures (front_more g.R.MadeFrom.of c.args.items.now c.args.records.now c.loop-i.records c.loop-i.i c.index-items-i.result here room c.index-items-i.is c.loop-i.invariant)
+    rw c.made_from.ensures (front_more g.R.MadeFrom.of c.args.items.now c.args.records.now c.loop-i.records c.loop-i.i c.index-items-i.result here room c.index-items-i.is c.loop-i.invariant)

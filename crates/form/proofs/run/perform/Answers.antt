@@ -8,13 +8,13 @@ use Rattle.history.specs.Promise.{lent_to, opened}
 use Rattle.history.proofs.Running.{Running, turn, promise_refused, promise_kept}
 use Rattle.form.proofs.run.perform.Goals as goal
 
-pub returns-in-err-form : goal.returns-in-err-form
-returns-in-err-form g c =
-    let p = err_from_is_err_and c.from-residual.result c.from-residual.ensures.1 in
+pub returns-in_err-form : goal.returns-in_err-form
+returns-in_err-form g c =
+    let p = err_from_is_err_and c.from_residual.result c.from_residual.ensures.1 in
     let m = g.H.Hierarchy.meaning c.args.h.now in
     let r = rule g.S.Scheme g.S.Value.ValueKind c.args.s.now in
     let before = lent_to c.args.points.now c.args.slots.now c.args.answers.now in
-    rw (p.1, p.2) (promise_refused m r (g.S.Scheme.uniform c.args.s.now) c.args.depth c.args.calls.now before _ c.in-err-form.ensures)
+    rw (p.1, p.2) (promise_refused m r (g.S.Scheme.uniform c.args.s.now) c.args.depth c.args.calls.now before _ c.in_err-form.ensures)
 
 pub loop-i-preserved : goal.loop-i-preserved
 loop-i-preserved g c =
@@ -44,4 +44,4 @@ returns g c =
     let mem = lending c.loop-i.form.state c.loop-i.points c.loop-i.slots in
     let end : c.loop-i.i ≡ c.min-count.result = omega arith in
     let run = subst (λ n. Running m r (opened c.args.depth before) (take n c.args.calls.now) before mem c.loop-i.answers) end c.loop-i.invariant.2 in
-    promise_kept m r (g.S.Scheme.uniform c.args.s.now) c.args.depth c.args.calls.now before mem c.loop-i.answers c.min-count.result c.in-ok-form.ensures.0.verdict c.min-count.ensures run
+    promise_kept m r (g.S.Scheme.uniform c.args.s.now) c.args.depth c.args.calls.now before mem c.loop-i.answers c.min-count.result c.in_ok-form.ensures.0.verdict c.min-count.ensures run

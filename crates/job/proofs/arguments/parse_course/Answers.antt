@@ -11,8 +11,8 @@ pub returns-in-closed : goal.returns-in-closed
 unfolding course
 returns-in-closed c = rw c.in-closed.is
 
-pub returns-in-default : goal.returns-in-default
+pub returns-in_default : goal.returns-in_default
 unfolding course
-returns-in-default c =
+returns-in_default c =
     let w = c.args.word.now in
-    sym (rw (other w (codes "open") c.in-default.not-open, other w (codes "closed") c.in-default.not-closed))
+    sym (rw (other w (codes "open") c.in_default.not-open, other w (codes "closed") c.in_default.not-closed))

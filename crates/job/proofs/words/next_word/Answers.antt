@@ -6,18 +6,18 @@ use Rattle.job.proofs.Cuts.{words_nil, words_word, words_last}
 use Rattle.job.proofs.Turns.{words_trimmed, some_before, is_word}
 use Rattle.job.proofs.words.next_word.Goals as goal
 
-pub returns-then-is-empty : goal.returns-then-is-empty
-returns-then-is-empty c =
-    let trimmed = c.trim-start-matches-start in
+pub returns-then-is_empty : goal.returns-then-is_empty
+returns-then-is_empty c =
+    let trimmed = c.trim_start_matches-start in
     record {
-      value = words_trimmed _ _ trimmed.ensures.matches ∙ ap words (nil_from_length trimmed.result.now (true-eqb _ 0 c.if-is-empty.ensures)) ∙ words_nil;
+      value = words_trimmed _ _ trimmed.ensures.matches ∙ ap words (nil_from_length trimmed.result.now (true-eqb _ 0 c.if-is_empty.ensures)) ∙ words_nil;
       shorter = tt;
     }
 
 pub returns-in-Some : goal.returns-in-Some
 returns-in-Some c =
-    let start = c.trim-start-matches-start.result.now in
-    let trimmed = c.trim-start-matches-start.ensures in
+    let start = c.trim_start_matches-start.result.now in
+    let trimmed = c.trim_start_matches-start.ensures in
     let word = c.in-Some.parts.0.now in
     let rest = c.in-Some.parts.1.now in
     let cut = split_parts space start (Some c.in-Some.parts) c.in-Some.ensures.cases (omega arith) in
@@ -28,9 +28,9 @@ returns-in-Some c =
 
 pub returns-in-None : goal.returns-in-None
 returns-in-None c =
-    let start = c.trim-start-matches-start.result.now in
-    let trimmed = c.trim-start-matches-start.ensures in
-    let some = false-eqb (length start) 0 c.if-is-empty.ensures in
+    let start = c.trim_start_matches-start.result.now in
+    let trimmed = c.trim_start_matches-start.ensures in
+    let some = false-eqb (length start) 0 c.if-is_empty.ensures in
     let solid = split_parts space start None c.in-None.ensures.cases (omega arith) in
     record {
       value = words_trimmed _ _ trimmed.matches ∙ words_last start (is_word start (omega (arith, some)) solid) ∙ ap (λ ws. start ∷ ws) (sym words_nil);

@@ -23,5 +23,5 @@ loop-word-preserved c =
 
 pub returns : goal.returns
 returns c =
-    let none = c.in-default.ensures.value in
+    let none = c.in_default.ensures.value in
     record { count = counted _ _ _ _ c.loop-word.invariant.1 none; first = held _ _ _ _ c.loop-word.invariant.1 none }

@@ -7,25 +7,25 @@ use Rattle.lifting.proofs.Changing.{partly, partly_none, turn_changes, half_is}
 use Rattle.lifting.proofs.Idling.{half_idle}
 use Rattle.lifting.proofs.half_step.change.Goals as goal
 
-pub returns-then-is-idle : goal.returns-then-is-idle
-returns-then-is-idle g c =
+pub returns-then-is_idle : goal.returns-then-is_idle
+returns-then-is_idle g c =
     let m = g.H.Hierarchy.meaning c.args.h.now in
     let r = rule g.S.Scheme g.S.Value.ValueKind c.args.s.now in
-    let none = c.is-idle.ensures.nothing (subst T (sym c.if-is-idle.true) tt) in
+    let none = c.is_idle.ensures.nothing (subst T (sym c.if-is_idle.true) tt) in
     sym (half_idle m r g.S.Value.ValueKind.laws c.args.way c.args.level c.args.step c.args.class (none c.args.class) c.args.values.now)
 
 pub loop-number-init : goal.loop-number-init
 loop-number-init g c = sym (partly_none (g.H.Hierarchy.meaning c.args.h.now) (rule g.S.Scheme g.S.Value.ValueKind c.args.s.now) c.args.way c.args.step c.args.level c.args.class c.args.values.now)
 
-pub overflow-add-from : goal.overflow-add-from
-overflow-add-from g c =
+pub overflow_add-from : goal.overflow_add-from
+overflow_add-from g c =
     let lawful = g.H.Hierarchy.lawful c.args.h.now in
     let from = begins lawful c.layout-at.ensures.laid c.args.class c.layout-at.ensures.level c.first-from.ensures in
     let inside = point_inside lawful c.args.level c.args.class c.loop-number.number c.requires.level (omega (arith, c.count-number-end.ensures)) in
     record { fits = omega (arith, lawful.few_vertices) }
 
-pub add-at-requires : goal.add-at-requires
-add-at-requires g c =
+pub add_at-requires : goal.add_at-requires
+add_at-requires g c =
     let lawful = g.H.Hierarchy.lawful c.args.h.now in
     let from = begins lawful c.layout-at.ensures.laid c.args.class c.layout-at.ensures.level c.first-from.ensures in
     let inside = point_inside lawful c.args.level c.args.class c.loop-number.number c.requires.level (omega (arith, c.count-number-end.ensures)) in
@@ -41,7 +41,7 @@ loop-number-preserved g c =
     let from : c.first-from.result ≡ first_place m c.args.level c.args.class = begins lawful c.layout-at.ensures.laid c.args.class c.layout-at.ensures.level c.first-from.ensures in
     let inside = point_inside lawful c.args.level c.args.class number c.requires.level few in
     let added = c.amount-added.ensures ∙ ap (λ j. amount_at m r c.args.step j c.args.class number c.loop-number.values) c.layout-at.ensures.level in
-    turn_changes lawful r c.args.way c.args.step c.args.level c.args.class c.args.values.now number few (omega (arith, c.requires.whole)) c.loop-number.invariant (ap (λ p. p + number) from) added c.add-at.ensures
+    turn_changes lawful r c.args.way c.args.step c.args.level c.args.class c.args.values.now number few (omega (arith, c.requires.whole)) c.loop-number.invariant (ap (λ p. p + number) from) added c.add_at.ensures
 
 pub returns : goal.returns
 returns g c =

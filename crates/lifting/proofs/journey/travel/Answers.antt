@@ -5,14 +5,14 @@ use Rattle.lifting.proofs.Undoing.{level_undone}
 use Rattle.lifting.proofs.Journeys.{straight, returned}
 use Rattle.lifting.proofs.journey.travel.Goals as goal
 
-pub returns-in-err-check-depths : goal.returns-in-err-check-depths
-returns-in-err-check-depths g c =
-    let p = err_from_is_err_and c.from-residual.result c.from-residual.ensures.1 in
+pub returns-in_err-check_depths : goal.returns-in_err-check_depths
+returns-in_err-check_depths g c =
+    let p = err_from_is_err_and c.from_residual.result c.from_residual.ensures.1 in
     let m = g.H.Hierarchy.meaning c.args.h.now in
     let r = rule g.S.Scheme g.S.Value.ValueKind c.args.s.now in
     let undone = level_undone m r (g.H.Hierarchy.lawful c.args.h.now) g.S.Value.ValueKind.laws in
     rw (p.1, p.2) (record {
-      result = c.in-err-check-depths.ensures;
+      result = c.in_err-check_depths.ensures;
       values = refl;
       straight = straight m r undone;
       returned = returned m r undone;
@@ -24,7 +24,7 @@ returns g c =
     let r = rule g.S.Scheme g.S.Value.ValueKind c.args.s.now in
     let undone = level_undone m r (g.H.Hierarchy.lawful c.args.h.now) g.S.Value.ValueKind.laws in
     record {
-      result = c.in-ok-check-depths.ensures;
+      result = c.in_ok-check_depths.ensures;
       values = c.go.ensures;
       straight = straight m r undone;
       returned = returned m r undone;

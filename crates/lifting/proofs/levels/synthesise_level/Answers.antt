@@ -5,12 +5,12 @@ use Rattle.lifting.proofs.Undoing.{level_undone}
 use Rattle.lifting.proofs.IntegerLifts.{lifting_equations}
 use Rattle.lifting.proofs.levels.synthesise_level.Goals as goal
 
-pub returns-in-err-check-level : goal.returns-in-err-check-level
-returns-in-err-check-level g c =
-    let p = err_from_is_err_and c.from-residual.result c.from-residual.ensures.1 in
+pub returns-in_err-check_level : goal.returns-in_err-check_level
+returns-in_err-check_level g c =
+    let p = err_from_is_err_and c.from_residual.result c.from_residual.ensures.1 in
     let m = g.H.Hierarchy.meaning c.args.h.now in
     rw (p.1, p.2) (record {
-      result = c.in-err-check-level.ensures;
+      result = c.in_err-check_level.ensures;
       values = refl;
       undone = level_undone m (rule g.S.Scheme g.S.Value.ValueKind c.args.s.now) (g.H.Hierarchy.lawful c.args.h.now) g.S.Value.ValueKind.laws c.args.level;
       equations = lifting_equations (g.H.Hierarchy.lawful c.args.h.now) c.args.level;
@@ -20,7 +20,7 @@ pub returns : goal.returns
 returns g c =
     let m = g.H.Hierarchy.meaning c.args.h.now in
     record {
-      result = c.in-ok-check-level.ensures;
+      result = c.in_ok-check_level.ensures;
       values = c.synthesise.ensures;
       undone = level_undone m (rule g.S.Scheme g.S.Value.ValueKind c.args.s.now) (g.H.Hierarchy.lawful c.args.h.now) g.S.Value.ValueKind.laws c.args.level;
       equations = lifting_equations (g.H.Hierarchy.lawful c.args.h.now) c.args.level;

@@ -8,18 +8,18 @@ pub returns-in-Linear : goal.returns-in-Linear
 returns-in-Linear g c =
     let m = g.H.Hierarchy.meaning c.args.h.now in
     let j = c.args.level in
-    let done = c.synthesise-level.ensures in
+    let done = c.synthesise_level.ensures in
     record {
       result = done.result;
-      equations = by_table m j (Synthesis m j) (λ factor. synthesised m (spline factor) j) done.equations.synthesis Linear c.in-Linear.is c.synthesise-level.result c.args.points.now c.synthesise-level.new.values done.result done.values;
+      equations = by_table m j (Synthesis m j) (λ factor. synthesised m (spline factor) j) done.equations.synthesis Linear c.in-Linear.is c.synthesise_level.result c.args.points.now c.synthesise_level.new.values done.result done.values;
     }
 
 pub returns-in-Cubic : goal.returns-in-Cubic
 returns-in-Cubic g c =
     let m = g.H.Hierarchy.meaning c.args.h.now in
     let j = c.args.level in
-    let done = c.synthesise-level-in-Cubic.ensures in
+    let done = c.synthesise_level-in-Cubic.ensures in
     record {
       result = done.result;
-      equations = by_table m j (Synthesis m j) (λ factor. synthesised m (spline factor) j) done.equations.synthesis Cubic c.in-Cubic.is c.synthesise-level-in-Cubic.result c.args.points.now c.synthesise-level-in-Cubic.new.values done.result done.values;
+      equations = by_table m j (Synthesis m j) (λ factor. synthesised m (spline factor) j) done.equations.synthesis Cubic c.in-Cubic.is c.synthesise_level-in-Cubic.result c.args.points.now c.synthesise_level-in-Cubic.new.values done.result done.values;
     }

@@ -7,10 +7,10 @@ use Rattle.lifting.specs.Gathering.{target_class, chosen, with_read}
 use Rattle.lifting.proofs.Gathering.{turn_reads, turn_passes, target_begins, listed_inside, few_places}
 use Rattle.lifting.proofs.reading.gather.Given.{Over}
 use Rattle.lifting.proofs.reading.gather.Goals as goal
-use Rattle.lifting.proofs.reading.gather.Goals.{then-is-read, else-is-read}
+use Rattle.lifting.proofs.reading.gather.Goals.{then-is_read, else-is_read}
 
 -- a listed number stands at a place of the values
-place : (g : Over) (c : goal.Then-is-read g) → c.first-from.result + c.member-number.result < length c.args.values.now
+place : (g : Over) (c : goal.Then-is_read g) → c.first-from.result + c.member-number.result < length c.args.values.now
 place g c =
     let m = g.H.Hierarchy.meaning c.args.h.now in
     let lawful = g.H.Hierarchy.lawful c.args.h.now in
@@ -19,11 +19,11 @@ place g c =
     let from : c.first-from.result ≡ first_place m c.args.at.level (target_class c.args.link) = target_begins lawful c.requires c.args.link c.target_class.ensures c.first-from.ensures in
     omega (arith, c.member-number.ensures ∙ ap (λ (l : List ℕ). get_or l c.loop-k.k 0) found)
 
-pub overflow-add-from : goal.overflow-add-from
-overflow-add-from g c = record { fits = omega (arith, place g c, few_places (g.H.Hierarchy.lawful c.args.h.now) c.requires) }
+pub overflow_add-from : goal.overflow_add-from
+overflow_add-from g c = record { fits = omega (arith, place g c, few_places (g.H.Hierarchy.lawful c.args.h.now) c.requires) }
 
-pub offset-bounds-values-from : goal.offset-bounds-values-from
-offset-bounds-values-from g c = omega (arith, place g c)
+pub offset_bounds-values-from : goal.offset_bounds-values-from
+offset_bounds-values-from g c = omega (arith, place g c)
 
 pub bounds-values-from : goal.bounds-values-from
 bounds-values-from g c = place g c
@@ -43,9 +43,9 @@ loop-k-preserved g c q start =
     let short : length ns ≤ 8 = omega (arith, ap length found, lawful.short level link c.args.of) in
     let before = c.loop-k.invariant q start in
     let number : c.member-number.result ≡ get_or ns k 0 = c.member-number.ensures in
-    let test : cond c.args.curves_only (m.curve level (get_or ns k 0)) true ≡ c.is-read.result = sym (c.is-read.ensures ∙ ap (λ n. cond c.args.curves_only (m.curve level n) true) number) in
-    elim c.if-is-read.branch [
-      | then-is-read w ↦
+    let test : cond c.args.curves_only (m.curve level (get_or ns k 0)) true ≡ c.is_read.result = sym (c.is_read.ensures ∙ ap (λ n. cond c.args.curves_only (m.curve level n) true) number) in
+    elim c.if-is_read.branch [
+      | then-is_read w ↦
           let from : c.first-from.result ≡ first_place m level class = target_begins lawful c.requires link c.target_class.ensures c.first-from.ensures ∙ ap (first_place m level) (sym c.target_class.ensures) in
           let here : c.first-from.result + c.member-number.result ≡ first_place m level class + get_or ns k 0 = omega arith in
           let inside' = listed_inside lawful c.requires link c.args.of k (omega (arith, ap length found)) in
@@ -54,12 +54,12 @@ loop-k-preserved g c q start =
           subst
           (λ u. g.S.Scheme.holds u (with_read class (map value (chosen c.args.curves_only (m.curve level) (take (k + 1) ns))) q))
           (sym w.sum-is)
-          (turn_reads g.S.Scheme.holds value c.args.curves_only (m.curve level) ns k q class refl x inside short (test ∙ w.if-is-read.true) w.gather-sum.ensures before)
-      | else-is-read w ↦
+          (turn_reads g.S.Scheme.holds value c.args.curves_only (m.curve level) ns k q class refl x inside short (test ∙ w.if-is_read.true) w.gather-sum.ensures before)
+      | else-is_read w ↦
           subst
           (λ u. g.S.Scheme.holds u (with_read class (map value (chosen c.args.curves_only (m.curve level) (take (k + 1) ns))) q))
           (sym w.sum-is)
-          (turn_passes g.S.Scheme.holds value c.args.curves_only (m.curve level) ns k q class inside (test ∙ w.if-is-read.false) before)
+          (turn_passes g.S.Scheme.holds value c.args.curves_only (m.curve level) ns k q class inside (test ∙ w.if-is_read.false) before)
     ]
 
 pub returns : goal.returns

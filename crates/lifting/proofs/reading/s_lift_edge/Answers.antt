@@ -4,15 +4,15 @@ use Rattle.lifting.specs.HalfSteps.{rule}
 use Rattle.lifting.proofs.Amounts.{at_curve}
 use Rattle.lifting.proofs.reading.s_lift_edge.Goals as goal
 
-pub returns-then-is-curve : goal.returns-then-is-curve
-returns-then-is-curve g c =
+pub returns-then-is_curve : goal.returns-then-is_curve
+returns-then-is_curve g c =
     let m = g.H.Hierarchy.meaning c.args.h.now in
     let r = rule g.S.Scheme g.S.Value.ValueKind c.args.s.now in
-    c.amount.ensures none_read c.start.ensures ∙ at_curve m r c.args.step c.args.at.level c.args.values.now c.args.edge true (sym c.is-curve.ensures ∙ c.if-is-curve.true)
+    c.amount.ensures none_read c.start.ensures ∙ at_curve m r c.args.step c.args.at.level c.args.values.now c.args.edge true (sym c.is_curve.ensures ∙ c.if-is_curve.true)
 
 pub returns : goal.returns
 returns g c =
     let m = g.H.Hierarchy.meaning c.args.h.now in
     let r = rule g.S.Scheme g.S.Value.ValueKind c.args.s.now in
     c.amount-2.ensures _ (c.gather-faces.ensures none_read c.start-2.ensures)
-    ∙ at_curve m r c.args.step c.args.at.level c.args.values.now c.args.edge false (sym c.is-curve.ensures ∙ c.if-is-curve.false)
+    ∙ at_curve m r c.args.step c.args.at.level c.args.values.now c.args.edge false (sym c.is_curve.ensures ∙ c.if-is_curve.false)

@@ -22,12 +22,12 @@ returns-in-1 g c =
     c.amount-in-1.ensures _ (c.gather-curves.ensures none_read c.start-in-1.ensures)
     ∙ at_dimension m r c.args.step c.args.at.level c.args.values.now c.args.vertex 1 (sym c.dimension.ensures ∙ c.in-1.is)
 
-pub returns-in-default : goal.returns-in-default
-returns-in-default g c =
+pub returns-in_default : goal.returns-in_default
+returns-in_default g c =
     let m = g.H.Hierarchy.meaning c.args.h.now in
     let r = rule g.S.Scheme g.S.Value.ValueKind c.args.s.now in
     let few = (g.H.Hierarchy.lawful c.args.h.now).dimensions c.args.at.level c.args.vertex in
     let two : c.dimension.result ≡ 2 → ⊥ = search rules in
     let one : c.dimension.result ≡ 1 → ⊥ = search rules in
     let corner : m.dimension c.args.at.level c.args.vertex ≡ 0 = omega (arith, c.dimension.ensures) in
-    c.amount-in-default.ensures none_read c.start-in-default.ensures ∙ at_dimension m r c.args.step c.args.at.level c.args.values.now c.args.vertex 0 corner
+    c.amount-in_default.ensures none_read c.start-in_default.ensures ∙ at_dimension m r c.args.step c.args.at.level c.args.values.now c.args.vertex 0 corner

@@ -10,4 +10,4 @@ returns g c =
     let m = g.H.Hierarchy.meaning c.args.h.now in
     let read = values_read m g.S.Value.ValueKind.zero c.args.values.now c.args.at.level (w_lift_reads m c.args.at.level Edge c.args.edge) in
     c.amount.ensures read (c.gather-ends.ensures none_read c.start.ensures)
-    ∙ ap (λ d. g.S.Scheme.amount c.args.s.now Second Edge d read) c.edge-dimension.ensures
+    ∙ ap (λ d. g.S.Scheme.amount c.args.s.now Second Edge d read) c.edge_dimension.ensures

@@ -21,8 +21,8 @@ use Rattle.plan.proofs.Settle.{settled_kept}
 use Rattle.plan.proofs.Showing.{shows_kept}
 use Rattle.plan.proofs.building.fill_levels.Goals as goal
 
-pub write-coarsest-requires : goal.write-coarsest-requires
-write-coarsest-requires c =
+pub write_coarsest-requires : goal.write_coarsest-requires
+write_coarsest-requires c =
     let s = shape c.args.base.now in
     let rules = rules_from s c.args.base.now.rules in
     let first = c.requires.laid 0 (omega arith) ∙ coarsest s rules in
@@ -34,9 +34,9 @@ list-requires c =
     let rules = rules_from s c.args.base.now.rules in
     let laid = c.requires.laid 0 (omega arith) in
     record {
-      within = omega (arith, ap (λ b. b.at) laid, ap (λ b. b.corners) laid, block_end s rules 0, needs_rise s rules c.args.levels 1 c.requires.some, c.requires.within, c.write-coarsest.auto.table);
+      within = omega (arith, ap (λ b. b.at) laid, ap (λ b. b.corners) laid, block_end s rules 0, needs_rise s rules c.args.levels 1 c.requires.some, c.requires.within, c.write_coarsest.auto.table);
       few = omega (arith, ap (λ b. b.corners) laid, corners_few s rules 0 (omega arith));
-      shown = (surface s, c.write-coarsest.ensures.shown, subst Sound (coarsest_level s rules) (sound_at s rules 0));
+      shown = (surface s, c.write_coarsest.ensures.shown, subst Sound (coarsest_level s rules) (sound_at s rules 0));
     }
 
 pub loop-j-init : goal.loop-j-init
@@ -45,12 +45,12 @@ loop-j-init c =
     let rules = rules_from s c.args.base.now.rules in
     let laid = c.requires.laid 0 (omega arith) in
     let m = surface s in
-    let t = c.write-coarsest.new.table in
+    let t = c.write_coarsest.new.table in
     let u = c.list.new.table in
     let b = block_of c.args.blocks 0 in
     let sound = subst Sound (coarsest_level s rules) (sound_at s rules 0) in
-    let lists = c.list.ensures.listed m c.write-coarsest.ensures.shown sound in
-    let first : Standing u b m = record { shows = shows_kept t u b m c.list.ensures.kept c.write-coarsest.ensures.shown; lists = lists; sound = sound; covered = subst Covered (coarsest_level s rules) (covered_at s rules 0); plain = subst Plain (coarsest_level s rules) (plain_at s rules 0) } in
+    let lists = c.list.ensures.listed m c.write_coarsest.ensures.shown sound in
+    let first : Standing u b m = record { shows = shows_kept t u b m c.list.ensures.kept c.write_coarsest.ensures.shown; lists = lists; sound = sound; covered = subst Covered (coarsest_level s rules) (covered_at s rules 0); plain = subst Plain (coarsest_level s rules) (plain_at s rules 0) } in
     (record { settled = λ i l. absurd (omega arith); standing = subst (λ n. Standing u (block_at (first_block s) 0) n) (sym (coarsest_level s rules)) (subst (λ x. Standing u x m) laid first) }, keeps_none _ _ _)
 
 pub refine-finer-requires : goal.refine-finer-requires
@@ -63,7 +63,7 @@ refine-finer-requires c =
     let corners = ap (λ b. b.corners) laid in
     record {
       small = omega (arith, at, corners, block_few s rules j (omega (arith, c.loop-j-test.true, c.requires.few)));
-      within = omega (arith, at, corners, block_end_2 s rules j, needs_rise s rules c.args.levels (j + 1 + 1) (omega (arith, c.loop-j-test.true)), c.requires.within, c.loop-j.auto.table, c.list.auto.table, c.write-coarsest.auto.table);
+      within = omega (arith, at, corners, block_end_2 s rules j, needs_rise s rules c.args.levels (j + 1 + 1) (omega (arith, c.loop-j-test.true)), c.requires.within, c.loop-j.auto.table, c.list.auto.table, c.write_coarsest.auto.table);
       standing = (level (surface s) j, subst (λ b. Standing c.loop-j.table b (level (surface s) j)) (sym laid) c.loop-j.invariant.0.standing);
     }
 
@@ -78,7 +78,7 @@ settle-requires c =
     let corners = ap (λ b. b.corners) laid in
     let before = subst (λ b. Standing c.loop-j.table b (level (surface s) j)) (sym laid) c.loop-j.invariant.0.standing in
     record {
-      within = omega (arith, at, corners, block_end s rules j, needs_rise s rules c.args.levels (j + 1) (omega (arith, c.loop-j-test.true)), c.requires.within, c.refine-finer.auto.table, c.loop-j.auto.table, c.list.auto.table, c.write-coarsest.auto.table);
+      within = omega (arith, at, corners, block_end s rules j, needs_rise s rules c.args.levels (j + 1) (omega (arith, c.loop-j-test.true)), c.requires.within, c.refine-finer.auto.table, c.loop-j.auto.table, c.list.auto.table, c.write_coarsest.auto.table);
       standing = (level (surface s) j, standing_apart c.loop-j.table c.refine-finer.new.table b (level (surface s) j) _ _ (inl (omega arith)) c.refine-finer.ensures.kept before);
     }
 
@@ -98,7 +98,7 @@ list-requires-in-loop-j c =
     let corners = ap (λ b. b.corners) is in
     let before = subst (λ b. Standing c.loop-j.table b (level m j)) (sym laid) c.loop-j.invariant.0.standing in
     record {
-      within = omega (arith, at, corners, block_end s rules (j + 1), needs_rise s rules c.args.levels (j + 1 + 1) (omega (arith, c.loop-j-test.true)), c.requires.within, c.settle.auto.table, c.refine-finer.auto.table, c.loop-j.auto.table, c.list.auto.table, c.write-coarsest.auto.table);
+      within = omega (arith, at, corners, block_end s rules (j + 1), needs_rise s rules c.args.levels (j + 1 + 1) (omega (arith, c.loop-j-test.true)), c.requires.within, c.settle.auto.table, c.refine-finer.auto.table, c.loop-j.auto.table, c.list.auto.table, c.write_coarsest.auto.table);
       few = omega (arith, corners, corners_few s rules (j + 1) (omega (arith, c.loop-j-test.true, c.requires.few)));
       shown = (finer (level m j), beyond c.refine-finer.new.table c.settle.new.table (block_of c.args.blocks j) c.refine-finer.result (finer (level m j)) c.refine-finer.ensures.value c.settle.ensures.kept (c.refine-finer.ensures.shown (level m j) before), subst Sound (level_more m j) (sound_at s rules (j + 1)));
     }
@@ -146,7 +146,7 @@ settle-requires-2 c =
     let laid = c.requires.laid (c.args.levels - 1) (omega arith) in
     let stands = subst (λ n. Standing c.loop-j.table (block_at (first_block s) n) (level m n)) here c.loop-j.invariant.0.standing in
     record {
-      within = omega (arith, ap (λ b. b.at) laid, ap (λ b. b.corners) laid, block_end s rules (c.args.levels - 1), needs_rise s rules c.args.levels (c.args.levels - 1 + 1) (omega (arith, c.requires.some)), c.requires.within, c.loop-j.auto.table, c.list.auto.table, c.write-coarsest.auto.table);
+      within = omega (arith, ap (λ b. b.at) laid, ap (λ b. b.corners) laid, block_end s rules (c.args.levels - 1), needs_rise s rules c.args.levels (c.args.levels - 1 + 1) (omega (arith, c.requires.some)), c.requires.within, c.loop-j.auto.table, c.list.auto.table, c.write_coarsest.auto.table);
       standing = (level m (c.args.levels - 1), subst (λ b. Standing c.loop-j.table b (level m (c.args.levels - 1))) (sym laid) stands);
     }
 
@@ -178,5 +178,5 @@ returns c =
           (λ (low : i < j). settled_kept t u (at i) (level m i) _ _ (inl (omega (arith, block_end s rules i, at_needs s rules j, needs_rise s rules j (i + 1) (omega arith)))) kept (c.loop-j.invariant.0.settled i low))
           (λ (high : j ≤ i). let e : j ≡ i = omega arith in subst (λ n. Settled u (at n) (level m n)) e last)
           (cases_lt i j));
-      kept = keeps_then (keeps_wider _ _ (omega arith) (omega arith) c.write-coarsest.ensures.kept) (keeps_then (keeps_wider _ _ (omega arith) (omega arith) c.list.ensures.kept) (keeps_then (keeps_wider _ _ (omega arith) whole c.loop-j.invariant.1) (keeps_wider _ _ (omega arith) (omega arith) kept)));
+      kept = keeps_then (keeps_wider _ _ (omega arith) (omega arith) c.write_coarsest.ensures.kept) (keeps_then (keeps_wider _ _ (omega arith) (omega arith) c.list.ensures.kept) (keeps_then (keeps_wider _ _ (omega arith) whole c.loop-j.invariant.1) (keeps_wider _ _ (omega arith) (omega arith) kept)));
     }

@@ -16,7 +16,7 @@ Small b = (b.at + 80 * b.corners ≤ 2 ^ 30) × (b.vertices ≤ b.corners) × (b
 pub loop-j-init : goal.loop-j-init
 loop-j-init c =
     let s = shape c.args.base.now in
-    (refl, λ i l. let e : i ≡ 0 = omega arith in rw e (c.first-block-blocks.ensures ∙ sym (coarsest s (rules_from s c.args.base.now.rules))))
+    (refl, λ i l. let e : i ≡ 0 = omega arith in rw e (c.first_block-blocks.ensures ∙ sym (coarsest s (rules_from s c.args.base.now.rules))))
 
 pub next-requires : goal.next-requires
 next-requires c =

@@ -25,27 +25,27 @@ ended t b s rules e written =
 ended_kept : (t u : List ℕ) (b : Block) (s : Shape) → Keeps t u (begins b VertexHalfEnds) (begins b EdgeCornerEnds) → Ended t b (surface s) → Ended u b (surface s)
 ended_kept t u b s k e = record { counts = e.counts; ends = λ h l. ap (λ f. f h) (reads_kept t u b Ends _ _ (inl (omega arith)) k) ∙ e.ends h l }
 
-pub list-halves-requires : goal.list-halves-requires
-list-halves-requires c =
+pub list_halves-requires : goal.list_halves-requires
+list_halves-requires c =
     let s = shape c.args.base.now in
     let rules = rules_from s c.args.base.now.rules in
     let n = first_facts s rules c.args.b c.requires.block in
     record {
-      within = omega (arith, n.1, c.requires.within, c.write-ends.auto.table);
+      within = omega (arith, n.1, c.requires.within, c.write_ends.auto.table);
       few = omega (arith, n.0.corners, few_corners s rules);
-      shown = (surface s, ended c.write-ends.new.table c.args.b s rules c.requires.block c.write-ends.ensures.written, surface_sound s rules);
+      shown = (surface s, ended c.write_ends.new.table c.args.b s rules c.requires.block c.write_ends.ensures.written, surface_sound s rules);
     }
 
-pub write-halves-requires : goal.write-halves-requires
-write-halves-requires c =
+pub write_halves-requires : goal.write_halves-requires
+write_halves-requires c =
     let s = shape c.args.base.now in
     let rules = rules_from s c.args.base.now.rules in
-    let e = ended c.write-ends.new.table c.args.b s rules c.requires.block c.write-ends.ensures.written in
+    let e = ended c.write_ends.new.table c.args.b s rules c.requires.block c.write_ends.ensures.written in
     record {
       block = c.requires.block;
-      within = omega (arith, c.requires.within, c.write-ends.auto.table, c.list-halves.auto.table);
-      ended = ended_kept c.write-ends.new.table c.list-halves.new.table c.args.b s c.list-halves.ensures.kept e;
-      listed = c.list-halves.ensures.grouped (surface s) e (surface_sound s rules);
+      within = omega (arith, c.requires.within, c.write_ends.auto.table, c.list_halves.auto.table);
+      ended = ended_kept c.write_ends.new.table c.list_halves.new.table c.args.b s c.list_halves.ensures.kept e;
+      listed = c.list_halves.ensures.grouped (surface s) e (surface_sound s rules);
     }
 
 pub returns : goal.returns
@@ -55,23 +55,23 @@ returns c =
     let b = c.args.b in
     let n = first_facts s rules b c.requires.block in
     let m = surface s in
-    let k1 = c.write-ends.ensures.kept in
-    let k2 = c.list-halves.ensures.kept in
-    let k3 = c.write-halves.ensures.kept in
-    let k4 = c.write-faces.ensures.kept in
-    let k5 = c.write-curves.ensures.kept in
-    let k6 = c.write-dimensions.ensures.kept in
+    let k1 = c.write_ends.ensures.kept in
+    let k2 = c.list_halves.ensures.kept in
+    let k3 = c.write_halves.ensures.kept in
+    let k4 = c.write_faces.ensures.kept in
+    let k5 = c.write_curves.ensures.kept in
+    let k6 = c.write_dimensions.ensures.kept in
     let v : b.vertices ≤ b.corners = omega (arith, n.0.vertices, n.0.vertex_room, n.0.corners) in
     let e : b.edges ≤ b.corners = omega (arith, n.0.edges, n.0.edge_room, n.0.corners) in
-    let u = c.write-dimensions.new.table in
+    let u = c.write_dimensions.new.table in
     record {
       shown = record {
         counts = n.0;
-        ends = λ h l. let i : h < 2 * b.edges = omega (arith, n.0.edges) in reads_in u b Ends h (omega arith) ∙ k6.below _ (omega arith) ∙ k5.below _ (omega arith) ∙ k4.below _ (omega arith) ∙ k3.below _ (omega arith) ∙ k2.below _ (omega arith) ∙ c.write-ends.ensures.written h i;
-        halves = λ h l. let i : h < b.corners = omega (arith, n.0.corners) in reads_in u b Halves h (omega arith) ∙ k6.below _ (omega arith) ∙ k5.below _ (omega arith) ∙ k4.below _ (omega arith) ∙ c.write-halves.ensures.written h i;
-        faces = λ h l. let i : h < b.corners = omega (arith, n.0.corners) in reads_in u b Faces h (omega arith) ∙ k6.below _ (omega arith) ∙ k5.below _ (omega arith) ∙ c.write-faces.ensures.written h i;
-        curves = λ h l. let i : h < b.edges = omega (arith, n.0.edges) in reads_in u b Curves h (omega arith) ∙ k6.below _ (omega arith) ∙ c.write-curves.ensures.written h i;
-        dimensions = λ h l. let i : h < b.vertices = omega (arith, n.0.vertices) in reads_in u b Dimensions h (omega arith) ∙ c.write-dimensions.ensures.written h i;
+        ends = λ h l. let i : h < 2 * b.edges = omega (arith, n.0.edges) in reads_in u b Ends h (omega arith) ∙ k6.below _ (omega arith) ∙ k5.below _ (omega arith) ∙ k4.below _ (omega arith) ∙ k3.below _ (omega arith) ∙ k2.below _ (omega arith) ∙ c.write_ends.ensures.written h i;
+        halves = λ h l. let i : h < b.corners = omega (arith, n.0.corners) in reads_in u b Halves h (omega arith) ∙ k6.below _ (omega arith) ∙ k5.below _ (omega arith) ∙ k4.below _ (omega arith) ∙ c.write_halves.ensures.written h i;
+        faces = λ h l. let i : h < b.corners = omega (arith, n.0.corners) in reads_in u b Faces h (omega arith) ∙ k6.below _ (omega arith) ∙ k5.below _ (omega arith) ∙ c.write_faces.ensures.written h i;
+        curves = λ h l. let i : h < b.edges = omega (arith, n.0.edges) in reads_in u b Curves h (omega arith) ∙ k6.below _ (omega arith) ∙ c.write_curves.ensures.written h i;
+        dimensions = λ h l. let i : h < b.vertices = omega (arith, n.0.vertices) in reads_in u b Dimensions h (omega arith) ∙ c.write_dimensions.ensures.written h i;
       };
       kept = keeps_then (keeps_wider _ _ (omega arith) (omega (arith, n.1)) k1) (keeps_then (keeps_wider _ _ (omega arith) (omega (arith, n.1)) k2) (keeps_then (keeps_wider _ _ (omega arith) (omega (arith, n.1)) k3) (keeps_then (keeps_wider _ _ (omega arith) (omega (arith, n.1)) k4) (keeps_then (keeps_wider _ _ (omega arith) (omega (arith, n.1)) k5) (keeps_wider _ _ (omega arith) (omega (arith, n.1)) k6)))));
     }

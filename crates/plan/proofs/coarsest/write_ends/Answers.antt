@@ -19,9 +19,9 @@ loop-e-preserved c =
     let m = surface s in
     let at = c.start-at.result in
     let e = c.loop-e.e in
-    let given = c.edge-sides-edge-items.result.now in
+    let given = c.edge_sides-edge-items.result.now in
     let n = first_facts s (rules_from s c.args.base.now.rules) c.args.b c.requires.block in
-    let items = c.edge-sides-edge-items.ensures in
+    let items = c.edge_sides-edge-items.ensures in
     let edge = ap (λ (l : List Side). get_or l e nowhere) items in
     let room : at + (2 * e + 1) < length c.loop-e.table = omega (arith, c.start-at.ensures.value, n.1, n.0.corners, n.0.edge_room, c.requires.within, c.loop-e.auto.table, c.loop-e-test.true, ap length items) in
     let first = wrote_more (end_at m) at (2 * e) (get_or given e nowhere).tail c.loop-e.invariant
@@ -37,5 +37,5 @@ pub returns : goal.returns
 returns c =
     let s = shape c.args.base.now in
     let n = first_facts s (rules_from s c.args.base.now.rules) c.args.b c.requires.block in
-    let w = wrote_at _ (2 * c.args.b.edges) c.start-at.ensures.value (omega (arith, ap length c.edge-sides-edge-items.ensures, n.0.edges, c.loop-e.auto.e-end, c.loop-e-test.false)) c.loop-e.invariant in
+    let w = wrote_at _ (2 * c.args.b.edges) c.start-at.ensures.value (omega (arith, ap length c.edge_sides-edge-items.ensures, n.0.edges, c.loop-e.auto.e-end, c.loop-e-test.false)) c.loop-e.invariant in
     record { written = w.0; kept = w.1 }

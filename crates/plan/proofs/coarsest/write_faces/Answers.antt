@@ -16,7 +16,7 @@ fill-requires c =
     let rules = rules_from s c.args.base.now.rules in
     let n = first_facts s rules c.args.b c.requires.block in
     let f = c.loop-face.face in
-    let items = c.face-sizes-size-items.ensures in
+    let items = c.face_sizes-size-items.ensures in
     let many = ap length items ∙ length-map s.faces length in
     let size = ap (λ (l : List ℕ). get_or l f 0) items in
     let more = starts_more s.faces f (omega (arith, many, c.loop-face-test.true)) in
@@ -25,13 +25,13 @@ fill-requires c =
       small = omega (arith, many, c.loop-face-test.true, rules.most_faces);
     }
 
-pub overflow-add-at : goal.overflow-add-at
-overflow-add-at c =
+pub overflow_add-at : goal.overflow_add-at
+overflow_add-at c =
     let s = shape c.args.base.now in
     let rules = rules_from s c.args.base.now.rules in
     let n = first_facts s rules c.args.b c.requires.block in
     let f = c.loop-face.face in
-    let items = c.face-sizes-size-items.ensures in
+    let items = c.face_sizes-size-items.ensures in
     let size = ap (λ (l : List ℕ). get_or l f 0) items in
     let more = starts_more s.faces f (omega (arith, ap length items ∙ length-map s.faces length, c.loop-face-test.true)) in
     omega (arith, c.start-at.ensures.small, c.loop-face.invariant.0, size, more, starts_within s.faces (f + 1), n.0.corners)
@@ -40,7 +40,7 @@ pub loop-face-preserved : goal.loop-face-preserved
 loop-face-preserved c =
     let s = shape c.args.base.now in
     let f = c.loop-face.face in
-    let items = c.face-sizes-size-items.ensures in
+    let items = c.face_sizes-size-items.ensures in
     let many = ap length items ∙ length-map s.faces length in
     let size = ap (λ (l : List ℕ). get_or l f 0) items in
     let in-faces : f < length s.faces = omega (arith, many, c.loop-face-test.true) in
@@ -60,7 +60,7 @@ pub returns : goal.returns
 returns c =
     let s = shape c.args.base.now in
     let n = first_facts s (rules_from s c.args.base.now.rules) c.args.b c.requires.block in
-    let items = c.face-sizes-size-items.ensures in
+    let items = c.face_sizes-size-items.ensures in
     let last : c.loop-face.face ≡ length s.faces = omega (arith, ap length items ∙ length-map s.faces length, c.loop-face.auto.face-end, c.loop-face-test.false) in
     let all = ap (starts s.faces) last ∙ starts_all s.faces in
     record {

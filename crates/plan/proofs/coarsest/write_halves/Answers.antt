@@ -31,8 +31,8 @@ loop-c-preserved c =
     let at = c.start-at.result in
     let i = c.loop-c.c in
     let n = first_facts s rules b c.requires.block in
-    let given = c.face-sides-side-items.result.now in
-    let items = c.face-sides-side-items.ensures in
+    let given = c.face_sides-side-items.result.now in
+    let items = c.face_sides-side-items.ensures in
     let start = c.start-at.ensures.value in
     let inside : i < m.corners = omega (arith, c.loop-c-test.true, ap length items, length_sides s.faces) in
     let side = ap (λ (l : List Side). get_or l i nowhere) items ∙ side_at s.faces i inside in
@@ -45,7 +45,7 @@ loop-c-preserved c =
     let ended : Ended u b m = record { counts = c.requires.ended.counts; ends = λ h l. ap (λ f. f h) (reads_kept t u b Ends at (at + i) (inl (omega arith)) kept) ∙ c.requires.ended.ends h l } in
     let listed = grouped_kept t u b VertexHalfEnds VertexHalves at (at + i) _ _ _ (inr (omega (arith, n.0.corners))) (inr (omega (arith, n.0.corners))) kept c.requires.listed in
     let runs : Runs m (m.side i) from to = subst (λ p. Runs m (m.side i) p to) (sym tail) (subst (λ q. Runs m (m.side i) (m.vertex i) q) (sym head) (sound.joined i inside)) in
-    let found = c.find-half-half.ensures.found m (m.side i) ended listed sound (subst (λ p. p < m.vertices) (sym tail) (sound.placed i inside)) (sound.sided i inside) runs (λ e l r. only_edge s rules (m.side i) e from to (sound.sided i inside) l runs r) in
+    let found = c.find_half-half.ensures.found m (m.side i) ended listed sound (subst (λ p. p < m.vertices) (sym tail) (sound.placed i inside)) (sound.sided i inside) runs (λ e l r. only_edge s rules (m.side i) e from to (sound.sided i inside) l runs r) in
     wrote_more (corner_half m) at i _ c.loop-c.invariant
     (omega (arith, n.1, n.0.corners, c.requires.within, c.loop-c.auto.table))
     (found ∙ ap (half_at m (m.side i)) tail) c.store.ensures
@@ -54,5 +54,5 @@ pub returns : goal.returns
 returns c =
     let s = shape c.args.base.now in
     let n = first_facts s (rules_from s c.args.base.now.rules) c.args.b c.requires.block in
-    let w = wrote_at _ c.args.b.corners c.start-at.ensures.value (omega (arith, ap length c.face-sides-side-items.ensures, length_sides s.faces, n.0.corners, c.loop-c.auto.c-end, c.loop-c-test.false)) c.loop-c.invariant in
+    let w = wrote_at _ c.args.b.corners c.start-at.ensures.value (omega (arith, ap length c.face_sides-side-items.ensures, length_sides s.faces, n.0.corners, c.loop-c.auto.c-end, c.loop-c-test.false)) c.loop-c.invariant in
     record { written = w.0; kept = w.1 }

@@ -20,7 +20,7 @@ pub returns-then-entry-to : goal.returns-then-entry-to
 returns-then-entry-to c = record {
   found = λ m e ended listed sound l s r only.
       found_half m sound c.args.from c.args.to c.args.table.now c.args.b ended listed l c.loop-k.k c.entry-half.result
-      (omega (arith, c.list-start-first.ensures.value, c.loop-k.auto.k)) (omega (arith, c.entry-end.ensures.value, c.loop-k-test.true)) c.entry-half.ensures.value
+      (omega (arith, c.list_start-first.ensures.value, c.loop-k.auto.k)) (omega (arith, c.entry-end.ensures.value, c.loop-k-test.true)) c.entry-half.ensures.value
       (ap (reads c.args.table.now c.args.b Ends) (sym c.twin.ensures) ∙ sym c.entry.ensures.value ∙ c.if-entry-to.true) e only;
   small = c.entry-half.ensures.small;
 }
@@ -29,6 +29,6 @@ pub returns : goal.returns
 returns c = record {
   found = λ m e ended listed sound l s r only.
       absurd (never_missed m sound c.args.from c.args.to c.args.table.now c.args.b ended listed l e s r
-      (λ j low high z. c.loop-k.invariant j (omega (arith, c.list-start-first.ensures.value)) (omega (arith, c.entry-end.ensures.value, c.loop-k-test.false)) z));
+      (λ j low high z. c.loop-k.invariant j (omega (arith, c.list_start-first.ensures.value)) (omega (arith, c.entry-end.ensures.value, c.loop-k-test.false)) z));
   small = omega arith;
 }

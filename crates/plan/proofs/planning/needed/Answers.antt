@@ -14,15 +14,15 @@ use Rattle.plan.proofs.planning.needed.Goals as goal
 refined : (s : Shape) → Rules s → Refined (surface s)
 refined s rules = levels_refined (surface s) (surface_sound s rules) (surface_covered s rules)
 
-pub returns-in-err-blocks : goal.returns-in-err-blocks
-returns-in-err-blocks c =
+pub returns-in_err-blocks : goal.returns-in_err-blocks
+returns-in_err-blocks c =
     let s = shape c.args.base.now in
-    let p = err_from_is_err_and c.from-residual.result c.from-residual.ensures.1 in
-    rw (p.1, p.2) (record { value = sym c.in-err-blocks.ensures; refined = refined s (rules_from s c.args.base.now.rules) })
+    let p = err_from_is_err_and c.from_residual.result c.from_residual.ensures.1 in
+    rw (p.1, p.2) (record { value = sym c.in_err-blocks.ensures; refined = refined s (rules_from s c.args.base.now.rules) })
 
 pub returns : goal.returns
 returns c =
     let s = shape c.args.base.now in
     let rules = rules_from s c.args.base.now.rules in
-    let found = c.in-ok-blocks.ensures in
-    record { value = ap Ok (need_at s rules c.args.levels c.in-ok-blocks.blocks found) ∙ sym found.needed; refined = refined s rules }
+    let found = c.in_ok-blocks.ensures in
+    record { value = ap Ok (need_at s rules c.args.levels c.in_ok-blocks.blocks found) ∙ sym found.needed; refined = refined s rules }

@@ -5,8 +5,8 @@ use Rattle.schemes.proofs.Lifts.{one_worth}
 use Rattle.schemes.proofs.Sizes.{product_fits, product_is, times_size, stored_is}
 use Rattle.schemes.proofs.equations.round_one.Goals as goal
 
-pub overflow-mul-sixteenths : goal.overflow-mul-sixteenths
-overflow-mul-sixteenths c = product_fits c.args.sixteenths c.args.sum 16 (2 ^ 34) c.requires.0 c.requires.1 (lit< tt, lit< tt, lit< tt)
+pub overflow_mul-sixteenths : goal.overflow_mul-sixteenths
+overflow_mul-sixteenths c = product_fits c.args.sixteenths c.args.sum 16 (2 ^ 34) c.requires.0 c.requires.1 (lit< tt, lit< tt, lit< tt)
 
 pub round-requires : goal.round-requires
 round-requires c =
@@ -23,4 +23,4 @@ returns c a m f g =
     let s = c.args.sum in
     let e = product_is k s 16 (2 ^ 34) c.requires.0 c.requires.1 (lit< tt, lit< tt, lit< tt) in
     let v = rw e at c.round.ensures.value in
-    stored_is c.round.result c.round.type-inv ∙ v (by_one a m) (one_worth a m k s c.args.count c.requires.2 f g)
+    stored_is c.round.result c.round.type_inv ∙ v (by_one a m) (one_worth a m k s c.args.count c.requires.2 f g)

@@ -7,11 +7,11 @@ use Rattle.schemes.proofs.Lifts.{two_worth}
 use Rattle.schemes.proofs.Sizes.{held, product_fits, product_is, product_read, held_is, times_size, sum_read, sum_fits, sum_size, stored_is}
 use Rattle.schemes.proofs.equations.round_two.Goals as goal
 
-pub overflow-add-over : goal.overflow-add-over
-overflow-add-over c = sum_fits c.scaled.result c.scaled-2.result (2 ^ 41) c.scaled.ensures.size c.scaled-2.ensures.size (lit< tt)
+pub overflow_add-over : goal.overflow_add-over
+overflow_add-over c = sum_fits c.scaled.result c.scaled-2.result (2 ^ 41) c.scaled.ensures.size c.scaled-2.ensures.size (lit< tt)
 
-pub overflow-mul-over : goal.overflow-mul-over
-overflow-mul-over c =
+pub overflow_mul-over : goal.overflow_mul-over
+overflow_mul-over c =
     let s = sum_size c.scaled.result c.scaled-2.result (2 ^ 41) c.scaled.ensures.size c.scaled-2.ensures.size (lit< tt) in
     product_fits c.args.sixteenths (held c.scaled.result +ℤ held c.scaled-2.result) 16 (2 ^ 42) c.requires.0 s (lit< tt, lit< tt, lit< tt)
 
@@ -41,4 +41,4 @@ returns c a m n u v w =
     let over : held (held k *ℤ held (held x +ℤ held y)) ≡ k *ℤ ((k *ℤ c.args.first) *ℤ pos c.args.seconds +ℤ (pos 16 *ℤ c.args.second) *ℤ pos c.args.firsts) =
     e ∙ ap (λ z. k *ℤ z) (r ∙ ap (λ z. z +ℤ y) first ∙ ap (λ z. (k *ℤ c.args.first) *ℤ pos c.args.seconds +ℤ z) second) in
     let value = rw over at c.round.ensures.value in
-    stored_is c.round.result c.round.type-inv ∙ value (by_two a m n) (two_worth a m n k c.args.first c.args.second c.args.firsts c.args.seconds c.requires.2 c.requires.5 u v w)
+    stored_is c.round.result c.round.type_inv ∙ value (by_two a m n) (two_worth a m n k c.args.first c.args.second c.args.firsts c.args.seconds c.requires.2 c.requires.5 u v w)

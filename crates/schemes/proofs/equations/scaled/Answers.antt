@@ -3,11 +3,11 @@ use Rattle.std.proofs.lemmas.Int.{ints}
 use Rattle.schemes.proofs.Sizes.{held, product_read, product_size, product_fits, product_is, times_size}
 use Rattle.schemes.proofs.equations.scaled.Goals as goal
 
-pub overflow-mul-result : goal.overflow-mul-result
-overflow-mul-result c = product_fits c.args.factor c.args.sum 16 (2 ^ 34) c.requires.0 c.requires.1 (lit< tt, lit< tt, lit< tt)
+pub overflow_mul-result : goal.overflow_mul-result
+overflow_mul-result c = product_fits c.args.factor c.args.sum 16 (2 ^ 34) c.requires.0 c.requires.1 (lit< tt, lit< tt, lit< tt)
 
-pub overflow-mul-result-2 : goal.overflow-mul-result-2
-overflow-mul-result-2 c =
+pub overflow_mul-result-2 : goal.overflow_mul-result-2
+overflow_mul-result-2 c =
     let a = c.args.factor in
     let b = c.args.sum in
     let s = product_size a b 16 (2 ^ 34) c.requires.0 c.requires.1 (lit< tt, lit< tt, lit< tt) in

@@ -23,5 +23,5 @@ pub returns : goal.returns
 returns c =
     let z = c.args.over in
     let over : held z ≡ z = stored_is z c.ranges.over.sfits in
-    let under : held c.from.result ≡ pos c.args.under = stored_is c.from.result c.from.type-inv ∙ c.from.ensures in
-    stored_is c.div-euclid.result c.div-euclid.type-inv ∙ c.div-euclid.ensures ∙ ap (λ y. int_div_euclid y (held c.from.result)) over ∙ ap (λ y. int_div_euclid z y) under
+    let under : held c.from.result ≡ pos c.args.under = stored_is c.from.result c.from.type_inv ∙ c.from.ensures in
+    stored_is c.div_euclid.result c.div_euclid.type_inv ∙ c.div_euclid.ensures ∙ ap (λ y. int_div_euclid y (held c.from.result)) over ∙ ap (λ y. int_div_euclid z y) under

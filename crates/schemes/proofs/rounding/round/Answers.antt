@@ -21,6 +21,6 @@ returns c =
     let d = c.args.under in
     let p = quotient n d c.requires.0 in
     let e : held c.floor.result ≡ rounded p =
-    stored_is c.floor.result c.floor.type-inv ∙ c.floor.ensures ∙ ap (λ z. int_div_euclid z (pos (2 * d))) (doubled n d c.from.result c.requires.1 c.requires.2 c.from.ensures) in
+    stored_is c.floor.result c.floor.type_inv ∙ c.floor.ensures ∙ ap (λ z. int_div_euclid z (pos (2 * d))) (doubled n d c.from.result c.requires.1 c.requires.2 c.from.ensures) in
     let value : (q : Fraction) → Worth q n d → held c.floor.result ≡ rounded q = λ q w. e ∙ rounded_same p q (sym w) in
     record { value = value; rounds = λ q w. rw (value q w) (rounded_rounds q); laws = rounding_laws }

@@ -11,8 +11,8 @@ returns-then-under-eq0 c = record { value = c.if-under-eq0.true; laws = rounding
 
 pub returns : goal.returns
 returns c =
-    let same = stored_is c.round.result c.round.type-inv in
-    let over : held c.from.result ≡ c.args.over = stored_is c.from.result c.from.type-inv ∙ c.from.ensures ∙ omega (arith, ints, c.ranges.over.sfits) in
+    let same = stored_is c.round.result c.round.type_inv in
+    let over : held c.from.result ≡ c.args.over = stored_is c.from.result c.from.type_inv ∙ c.from.ensures ∙ omega (arith, ints, c.ranges.over.sfits) in
     record {
       value = (omega (arith, c.if-under-eq0.false), λ q w. let v = subst₂ (λ n d. Worth q n d) (sym over) (sym c.from-2.ensures) w in (same ∙ c.round.ensures.value q v, subst (Rounds q) (sym same) (c.round.ensures.rounds q v)));
       laws = rounding_laws;

@@ -16,13 +16,13 @@ use Rattle.base.proofs.base.Base.write.Goals as goal
 rules : (b : Base) → Rules (shape b)
 rules b = rules_from (shape b) b.rules
 
-pub marked-edges-requires : goal.marked-edges-requires
-marked-edges-requires c =
+pub marked_edges-requires : goal.marked_edges-requires
+marked_edges-requires c =
     let b = c.args.self.now in
     ap length c.deref-2.ensures.value ∙ (rules b).marks ∙ sym (ap length b.edged) ∙ sym (ap length c.deref.ensures.value)
 
-pub write-faces-requires : goal.write-faces-requires
-write-faces-requires c =
+pub write_faces-requires : goal.write_faces-requires
+write_faces-requires c =
     let b = c.args.self.now in
     let sizes = c.deref-4.ensures.value in
     record {
@@ -33,9 +33,9 @@ write-faces-requires c =
 pub returns : goal.returns
 returns c =
     let b = c.args.self.now in
-    let vertices = c.in-ok-write-vertices.ensures ∙ ap (λ (l : List ℕ). vec_items c.new-out.result ++ flat_map (λ d. bytes_of (vertex d)) l) c.deref-3.ensures.value in
-    let faces = c.in-ok-write-faces.ensures ∙ ap₂ (λ (ks : List ℕ) (ss : List Side). vec_items c.write-vertices.new.out ++ flat_map (λ f. bytes_of (face f)) (parts ks ss)) c.deref-4.ensures.value c.deref-5.ensures.value in
-    let marks : c.deref-6.result.now ≡ curve_edges (shape b) = c.deref-6.ensures.value ∙ c.in-ok-curves.ensures ∙ ap₂ marked (c.deref.ensures.value ∙ b.edged) c.deref-2.ensures.value in
-    let curves = c.in-ok-write-curves.ensures ∙ ap (λ (l : List Side). vec_items c.write-faces.new.out ++ flat_map (λ s. bytes_of (curve s)) l) marks in
-    let all = one_by_one (vec_items c.new-out.result) (vec_items c.write-vertices.new.out) (vec_items c.write-faces.new.out) (vec_items c.write-curves.new.out) (vec_items c.push.new.self) _ _ _ c.new-out.ensures.items vertices faces curves c.in-ok-push.ensures.items in
+    let vertices = c.in_ok-write_vertices.ensures ∙ ap (λ (l : List ℕ). vec_items c.new-out.result ++ flat_map (λ d. bytes_of (vertex d)) l) c.deref-3.ensures.value in
+    let faces = c.in_ok-write_faces.ensures ∙ ap₂ (λ (ks : List ℕ) (ss : List Side). vec_items c.write_vertices.new.out ++ flat_map (λ f. bytes_of (face f)) (parts ks ss)) c.deref-4.ensures.value c.deref-5.ensures.value in
+    let marks : c.deref-6.result.now ≡ curve_edges (shape b) = c.deref-6.ensures.value ∙ c.in_ok-curves.ensures ∙ ap₂ marked (c.deref.ensures.value ∙ b.edged) c.deref-2.ensures.value in
+    let curves = c.in_ok-write_curves.ensures ∙ ap (λ (l : List Side). vec_items c.write_faces.new.out ++ flat_map (λ s. bytes_of (curve s)) l) marks in
+    let all = one_by_one (vec_items c.new-out.result) (vec_items c.write_vertices.new.out) (vec_items c.write_faces.new.out) (vec_items c.write_curves.new.out) (vec_items c.push.new.self) _ _ _ c.new-out.ensures.items vertices faces curves c.in_ok-push.ensures.items in
     record { bytes = all; back = ap reading all ∙ reads_back (shape b) (rules b) }

@@ -13,7 +13,7 @@ module _ (c : After-contains) where
   known : bad_vertex (drafted c.args.self.now) (curve c.args.side) ≡ false
   known =
       let s = c.args.side in
-      ap not (ap (λ n. proper n (s.tail ∷ s.head ∷ [])) (sym (c.len.ensures ∙ c.args.self.now.dims.ok.0)) ∙ sym c.are-proper.ensures ∙ c.if-not-are-proper.false)
+      ap not (ap (λ n. proper n (s.tail ∷ s.head ∷ [])) (sym (c.len.ensures ∙ c.args.self.now.dims.ok.0)) ∙ sym c.are_proper.ensures ∙ c.if-not-are_proper.false)
 
   found : edge_of (edges (drafted c.args.self.now).faces) c.args.side ≡ Some c.in-Some.edge
   found = ap (λ l. edge_of l c.args.side) (sym (c.deref.ensures.value ∙ c.requires.edged)) ∙ sym c.in-Some.ensures

@@ -5,7 +5,7 @@ use Rattle.curve.proofs.curve.Curve.edges_of.Goals as goal
 pub returns-then-self : goal.returns-then-self
 returns-then-self c =
     let it = c.args.self.now in
-    ap (λ e. 0 ∷ (e - 1) ∷ []) c.edge-count-last.ensures.value
+    ap (λ e. 0 ∷ (e - 1) ∷ []) c.edge_count-last.ensures.value
     ∙ edges_at_seam it.closed it.points it.enough c.args.level c.args.vertex (omega arith) c.if-self.true (omega arith)
 
 pub returns-else-self : goal.returns-else-self
@@ -16,7 +16,7 @@ returns-else-self c =
 pub returns-then-position-last : goal.returns-then-position-last
 returns-then-position-last c =
     let it = c.args.self.now in
-    ap (λ e. (e - 1) ∷ []) c.edge-count-last.ensures.value
+    ap (λ e. (e - 1) ∷ []) c.edge_count-last.ensures.value
     ∙ edges_at_last it.closed it.points it.enough c.args.level c.args.vertex (omega arith) (omega arith)
 
 pub returns : goal.returns

@@ -7,9 +7,9 @@ use Rattle.curve.proofs.curve.Curve.ends.Goals as goal
 pub returns-then-tail-head : goal.returns-then-tail-head
 returns-then-tail-head c =
     let it = c.args.self.now in
-    ends_rising it.closed it.points it.enough c.args.level c.args.edge c.numbered-tail.result c.numbered-head.result (omega arith) c.numbered-tail.ensures (c.numbered-head.ensures ∙ ap (number_at (coarsest it) c.args.level) c.next-position.ensures) (omega arith)
+    ends_rising it.closed it.points it.enough c.args.level c.args.edge c.numbered-tail.result c.numbered-head.result (omega arith) c.numbered-tail.ensures (c.numbered-head.ensures ∙ ap (number_at (coarsest it) c.args.level) c.next_position.ensures) (omega arith)
 
 pub returns-else-tail-head : goal.returns-else-tail-head
 returns-else-tail-head c =
     let it = c.args.self.now in
-    ends_falling it.closed it.points it.enough c.args.level c.args.edge c.numbered-tail.result c.numbered-head.result (omega arith) c.numbered-tail.ensures (c.numbered-head.ensures ∙ ap (number_at (coarsest it) c.args.level) c.next-position.ensures) (omega arith)
+    ends_falling it.closed it.points it.enough c.args.level c.args.edge c.numbered-tail.result c.numbered-head.result (omega arith) c.numbered-tail.ensures (c.numbered-head.ensures ∙ ap (number_at (coarsest it) c.args.level) c.next_position.ensures) (omega arith)

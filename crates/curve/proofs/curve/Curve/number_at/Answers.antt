@@ -3,7 +3,7 @@ use Rattle.std.proofs.lemmas.Bool.Decides.{nat_tests}
 use Rattle.curve.proofs.AtLevels.{along}
 use Rattle.levels.proofs.CurveCounts.{two_points}
 use Rattle.curve.proofs.curve.Curve.number_at.Goals as goal
-use Rattle.curve.proofs.curve.Curve.number_at.Goals.{then-level-self-via-then-level-self, then-level-self-via-else-level-self+then-position-vertex-count}
+use Rattle.curve.proofs.curve.Curve.number_at.Goals.{then-level-self-via-then-level-self, then-level-self-via-else-level-self+then-position-vertex_count}
 
 pub returns-then-level-self : goal.returns-then-level-self
 returns-then-level-self c =
@@ -12,7 +12,7 @@ returns-then-level-self c =
     record {
       value = elim c.then-level-self.branch [
         | then-level-self-via-then-level-self w ↦ grind (arith, nat_tests)
-        | then-level-self-via-else-level-self+then-position-vertex-count w ↦ grind (arith, nat_tests)
+        | then-level-self-via-else-level-self+then-position-vertex_count w ↦ grind (arith, nat_tests)
       ];
       law = λ j. along it.closed it.points (omega arith) j;
     }

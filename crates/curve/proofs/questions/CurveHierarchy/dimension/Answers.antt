@@ -7,4 +7,4 @@ pub returns : goal.returns
 returns c =
     let it = c.args.self.now in
     let two = two_points it.closed it.points it.enough in
-    c.coarse-dimension.ensures ∙ dimensioned it.closed it.points it.levels c.args.level c.args.vertex (omega arith) (omega arith) (omega arith)
+    c.coarse_dimension.ensures ∙ dimensioned it.closed it.points it.levels c.args.level c.args.vertex (omega arith) (omega arith) (omega arith)

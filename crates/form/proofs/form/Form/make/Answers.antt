@@ -10,7 +10,7 @@ returns g c =
     let r = rule g.S.Scheme g.S.Value.ValueKind c.args.self.now.scheme.now in
     let laws = g.S.Value.ValueKind.laws in
     record {
-      call = λ h stands. part_made m r (straight m r (level_undone m r (g.H.Hierarchy.lawful c.args.self.now.hierarchy.now) laws)) laws h c.args.call c.args.self.now.state c.args.points.now c.args.slots.now c.min-points-lent.result c.min-slots-lent.result c.min-points-lent.ensures c.min-slots-lent.ensures stands c.serve.result _ _ _ c.serve.ensures.call;
+      call = λ h stands. part_made m r (straight m r (level_undone m r (g.H.Hierarchy.lawful c.args.self.now.hierarchy.now) laws)) laws h c.args.call c.args.self.now.state c.args.points.now c.args.slots.now c.min-points_lent.result c.min-slots_lent.result c.min-points_lent.ensures c.min-slots_lent.ensures stands c.serve.result _ _ _ c.serve.ensures.call;
       hierarchy = c.serve.ensures.hierarchy;
       scheme = c.serve.ensures.scheme;
     }

@@ -6,14 +6,14 @@ use Rattle.history.specs.Memory.{lending}
 use Rattle.history.proofs.Serving.{refused_kept, served_kept}
 use Rattle.form.proofs.form.Form.move_by.Goals as goal
 
-pub returns-in-err-check : goal.returns-in-err-check
-returns-in-err-check g c =
-    let p = err_from_is_err_and c.from-residual.result c.from-residual.ensures.1 in
+pub returns-in_err-check : goal.returns-in_err-check
+returns-in_err-check g c =
+    let p = err_from_is_err_and c.from_residual.result c.from_residual.ensures.1 in
     let m = g.H.Hierarchy.meaning c.args.self.now.hierarchy.now in
     let r = rule g.S.Scheme g.S.Value.ValueKind c.args.self.now.scheme.now in
     let mem = lending c.args.self.now.state c.args.points.now c.args.slots.now in
     rw (p.1, p.2) (record {
-      call = refused_kept m r mem (g.H.Hierarchy.lawful c.args.self.now.hierarchy.now) g.S.Value.ValueKind.laws (Move c.args.place c.args.amount) _ c.in-err-check.ensures;
+      call = refused_kept m r mem (g.H.Hierarchy.lawful c.args.self.now.hierarchy.now) g.S.Value.ValueKind.laws (Move c.args.place c.args.amount) _ c.in_err-check.ensures;
       hierarchy = refl;
       scheme = refl;
     })
@@ -24,7 +24,7 @@ returns g c =
     let r = rule g.S.Scheme g.S.Value.ValueKind c.args.self.now.scheme.now in
     let mem = lending c.args.self.now.state c.args.points.now c.args.slots.now in
     record {
-      call = served_kept m r mem (g.H.Hierarchy.lawful c.args.self.now.hierarchy.now) g.S.Value.ValueKind.laws (Move c.args.place c.args.amount) _ _ _ _ c.in-ok-check.ensures refl refl c.add.ensures c.put.ensures;
+      call = served_kept m r mem (g.H.Hierarchy.lawful c.args.self.now.hierarchy.now) g.S.Value.ValueKind.laws (Move c.args.place c.args.amount) _ _ _ _ c.in_ok-check.ensures refl refl c.add.ensures c.put.ensures;
       hierarchy = refl;
       scheme = refl;
     }

@@ -11,8 +11,8 @@ coordinate {a} {r} f g e = to_z-of_z w32 r g ∙ e ∙ ap residue (to_z-of_z w64
 
 pub returns : goal.returns
 returns c =
-    let x = coordinate c.ranges.x (record { sfits = c.residue.type-inv }) c.residue.ensures in
-    let y = coordinate c.ranges.y (record { sfits = c.residue-2.type-inv }) c.residue-2.ensures in
-    let z = coordinate c.ranges.z (record { sfits = c.residue-3.type-inv }) c.residue-3.ensures in
+    let x = coordinate c.ranges.x (record { sfits = c.residue.type_inv }) c.residue.ensures in
+    let y = coordinate c.ranges.y (record { sfits = c.residue-2.type_inv }) c.residue-2.ensures in
+    let z = coordinate c.ranges.z (record { sfits = c.residue-3.type_inv }) c.residue-3.ensures in
     let is = same_point x y z in
     record { value = is; modulo = modulo_of is }

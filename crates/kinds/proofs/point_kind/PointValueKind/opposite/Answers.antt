@@ -14,8 +14,8 @@ coordinate a {r} f g e = to_z-of_z w32 r g ∙ e ∙ neg_residue a f
 pub returns : goal.returns
 returns c =
     let p = c.args.self in
-    let x = coordinate p.x p.fits.0 (record { sfits = c.wrapping-neg.type-inv }) c.wrapping-neg.ensures in
-    let y = coordinate p.y p.fits.1 (record { sfits = c.wrapping-neg-2.type-inv }) c.wrapping-neg-2.ensures in
-    let z = coordinate p.z p.fits.2 (record { sfits = c.wrapping-neg-3.type-inv }) c.wrapping-neg-3.ensures in
+    let x = coordinate p.x p.fits.0 (record { sfits = c.wrapping_neg.type_inv }) c.wrapping_neg.ensures in
+    let y = coordinate p.y p.fits.1 (record { sfits = c.wrapping_neg-2.type_inv }) c.wrapping_neg-2.ensures in
+    let z = coordinate p.z p.fits.2 (record { sfits = c.wrapping_neg-3.type_inv }) c.wrapping_neg-3.ensures in
     let is = same_point x y z in
     record { value = is; modulo = modulo_of is }

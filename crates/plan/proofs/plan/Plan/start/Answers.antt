@@ -23,25 +23,25 @@ start_lawful s rules = hierarchy_lawful (surface s) 1 (surface_sound s rules) (o
         let zeroth = coarsest_level s rules in
         omega (arith, ap (λ n. n.vertices) (level_more (surface s) 0), ap (λ n. n.vertices) zeroth, ap (λ n. n.edges) zeroth, ap (λ n. n.faces) zeroth, rules.most_vertices, rules.most_edges, rules.most_faces)
 
-pub fill-levels-requires : goal.fill-levels-requires
-fill-levels-requires c =
-    let b = c.in-ok-base.base in
+pub fill_levels-requires : goal.fill_levels-requires
+fill_levels-requires c =
+    let b = c.in_ok-base.base in
     let s = shape b in
     record {
       some = omega arith;
       few = omega arith;
-      laid = c.lay-out-blocks.ensures;
-      within = omega (arith, ap (λ x. x.at) (c.lay-out-blocks.ensures 1 (omega arith)), at_needs s (rules_from s b.rules) 1, c.deref-mut.ensures.len, c.in-ok-table.ensures.len);
+      laid = c.lay_out-blocks.ensures;
+      within = omega (arith, ap (λ x. x.at) (c.lay_out-blocks.ensures 1 (omega arith)), at_needs s (rules_from s b.rules) 1, c.deref-mut.ensures.len, c.in_ok-table.ensures.len);
     }
 
-pub invariant-of-result : goal.invariant-of-result
-invariant-of-result c =
-    let b = c.in-ok-base.base in
-    let filled = with_items_is c.in-ok-table.table c.fill-levels.new.table (c.fill-levels.auto.table ∙ c.deref-mut.ensures.len) in
-    let told = ap (λ (l : List ℕ). tells l 1 c.lay-out-blocks.result) filled ∙ c.fill-levels.ensures.told in
+pub invariant_of-result : goal.invariant_of-result
+invariant_of-result c =
+    let b = c.in_ok-base.base in
+    let filled = with_items_is c.in_ok-table.table c.fill_levels.new.table (c.fill_levels.auto.table ∙ c.deref-mut.ensures.len) in
+    let told = ap (λ (l : List ℕ). tells l 1 c.lay_out-blocks.result) filled ∙ c.fill_levels.ensures.told in
     (omega arith, (∣ subst Lawful (sym told) (start_lawful (shape b) (rules_from (shape b) b.rules)) ∣₁, tt))
 
 pub returns : goal.returns
 returns c =
-    let filled = with_items_is c.in-ok-table.table c.fill-levels.new.table (c.fill-levels.auto.table ∙ c.deref-mut.ensures.len) in
-    ap (λ (l : List ℕ). tells l 1 c.lay-out-blocks.result) filled ∙ c.fill-levels.ensures.told ∙ ap (λ s. hierarchy (surface s) 1) c.in-ok-base.ensures
+    let filled = with_items_is c.in_ok-table.table c.fill_levels.new.table (c.fill_levels.auto.table ∙ c.deref-mut.ensures.len) in
+    ap (λ (l : List ℕ). tells l 1 c.lay_out-blocks.result) filled ∙ c.fill_levels.ensures.told ∙ ap (λ s. hierarchy (surface s) 1) c.in_ok-base.ensures

@@ -7,8 +7,8 @@ use Rattle.plan.specs.Plans.{means}
 use Rattle.plan.specs.Told.{told_dimension}
 use Rattle.plan.proofs.questions.PlanHierarchy.dimension.Goals as goal
 
-pub overflow-cast-result : goal.overflow-cast-result
-overflow-cast-result c =
+pub overflow_cast-result : goal.overflow_cast-result
+overflow_cast-result c =
     let p = c.args.self.now in
     let level = c.args.level in
     let v = c.args.vertex in

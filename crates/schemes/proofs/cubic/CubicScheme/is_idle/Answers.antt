@@ -9,4 +9,4 @@ pub returns : goal.returns
 returns c =
     let k = c.sixteenths.result in
     let w : Worth (cubic c.args.step) (held k) 16 = factor_read (cubic c.args.step) k c.sixteenths.ensures.0 c.sixteenths.ensures.1 in
-    record { value = c.spline-rests.ensures.value cubic w; nothing = λ t class d q. c.spline-rests.ensures.nothing t cubic class d q w }
+    record { value = c.spline_rests.ensures.value cubic w; nothing = λ t class d q. c.spline_rests.ensures.nothing t cubic class d q w }
