@@ -10,6 +10,6 @@ pub any_nowhere : {A : Type 0} (p : A → Bool) (xs : List A) (d : A) → ((k : 
 any_nowhere p xs d h = any_none p xs (All-from_get_or (λ x. p x ≡ false) xs d h)
 
 -- what `contains` answers
-pub occurs_from_contains : (xs : List ℕ) (v : ℕ) (r : Bool) → IsAnyAnswer (λ y t. Decides t (y ≡ v)) xs r → r ≡ occurs v xs
-occurs_from_contains xs v true s = sym (any_here (λ x. eqb x v) xs s.0 0 s.1 (eq-eqb _ _ ((s.2 0).0 refl)))
-occurs_from_contains xs v false s = sym (any_nowhere (λ x. eqb x v) xs 0 (λ k l. ne_eqb _ _ (λ e. false≢true ((s k 0 (omega arith) l).1 e))))
+pub occurs_from_contains : (xs : List ℕ) (v : ℕ) (r : Bool) → IsAnyAnswer (λ y t. eqb y v ≡ t) xs r → r ≡ occurs v xs
+occurs_from_contains xs v true s = sym (any_here (λ x. eqb x v) xs s.0 0 s.1 (s.2 0))
+occurs_from_contains xs v false s = sym (any_nowhere (λ x. eqb x v) xs 0 (λ k l. s k 0 (omega arith) l))

@@ -8,7 +8,7 @@ use Rattle.base.specs.Drafts.{drafted}
 use Rattle.base.specs.Faces.{shaped}
 use Rattle.base.proofs.Verdicts.{passed_on, stopped, trailed, whole}
 use Rattle.base.proofs.reading.read_base.Goals as goal
-use Rattle.base.proofs.reading.read_base.Goals.{After-judge, In-ok-curves}
+use Rattle.base.proofs.reading.read_base.Goals.{After-judge, In_ok-curves}
 
 pub returns-in_err-draft : goal.returns-in_err-draft
 returns-in_err-draft c =
@@ -31,7 +31,7 @@ returns-in_err-curves c =
     let same = all_read (goal.at.returns-in_err-curves c).After-judge in
     rw (p.1, p.2) (passed_on c.in_err-curves.field-0.0 _ _ (λ x e. same ∙ e) c.in_err-curves.ensures)
 
-given_shape : (c : In-ok-curves) → reading c.args.bytes.now ≡ checked (finished (drafted c.in_ok-draft.draft)) → reading c.args.bytes.now ≡ Ok (shaped (vec_items c.in_ok-draft.draft.dims) (vec_items c.in_ok-draft.draft.sizes) (vec_items c.in_ok-draft.draft.sides) (vec_items c.in_ok-curves.curves))
+given_shape : (c : In_ok-curves) → reading c.args.bytes.now ≡ checked (finished (drafted c.in_ok-draft.draft)) → reading c.args.bytes.now ≡ Ok (shaped (vec_items c.in_ok-draft.draft.dims) (vec_items c.in_ok-draft.draft.sizes) (vec_items c.in_ok-draft.draft.sides) (vec_items c.in_ok-curves.curves))
 given_shape c same =
     let m = c.in_ok-draft.draft in
     let judged = c.in_ok-curves.ensures in
@@ -41,9 +41,14 @@ pub invariant_of-result : goal.invariant_of-result
 invariant_of-result c =
     let at = goal.at.invariant_of-result c in
     let tied = c.in_ok-draft.ensures.tied in
-    (tied.total, (tied.sided, (tied.edged, (∣ (reads_writings c.args.bytes.now _ (given_shape at.In-ok-curves (all_read at.After-judge))).0 ∣₁, tt))))
+    record {
+      total = tied.total;
+      sided = tied.sided;
+      edged = tied.edged;
+      rules = ∣ (reads_writings c.args.bytes.now _ (given_shape at.In_ok-curves (all_read at.After-judge))).0 ∣₁;
+    }
 
 pub returns : goal.returns
 returns c =
     let at = goal.at.returns c in
-    given_shape at.In-ok-curves (all_read at.After-judge)
+    given_shape at.In_ok-curves (all_read at.After-judge)

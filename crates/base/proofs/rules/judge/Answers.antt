@@ -10,12 +10,12 @@ use Rattle.base.specs.declared.draft.Draft.{Draft}
 use Rattle.base.specs.Drafts.{drafted, Tied}
 use Rattle.base.proofs.Judging.{checked_edges, checked_valences, checked_dimensions, checked_all, valence_test}
 use Rattle.base.proofs.rules.judge.Goals as goal
-use Rattle.base.proofs.rules.judge.Goals.{In-ok-curves, After-first_open_edge, After-first_bad_valence, After-first_bad_dimension}
+use Rattle.base.proofs.rules.judge.Goals.{In_ok-curves, After-first_open_edge, After-first_bad_valence, After-first_bad_dimension}
 
 abbrev shape : Draft → Shape
 shape m = finished (drafted m)
 
-module _ (c : In-ok-curves) where
+module _ (c : In_ok-curves) where
   marks : vec_items c.in_ok-curves.curves ≡ (shape c.args.draft.now).curves
   marks =
       c.in_ok-curves.ensures
@@ -46,27 +46,27 @@ dimension_tested c marked_by =
 
 pub first_open_edge-requires : goal.first_open_edge-requires
 first_open_edge-requires c =
-    ap length (c.deref-4.ensures.value ∙ marks (goal.at.first_open_edge-requires c).In-ok-curves) ∙ marks_long c.args.draft.now c.requires ∙ sym (ap length c.deref-2.ensures.value)
+    ap length (c.deref-4.ensures.value ∙ marks (goal.at.first_open_edge-requires c).In_ok-curves) ∙ marks_long c.args.draft.now c.requires ∙ sym (ap length c.deref-2.ensures.value)
 
 pub returns-in-Some : goal.returns-in-Some
 returns-in-Some c =
-    let tested = open_tested (goal.at.returns-in-Some c).After-first_open_edge (marks (goal.at.returns-in-Some c).In-ok-curves) in
+    let tested = open_tested (goal.at.returns-in-Some c).After-first_open_edge (marks (goal.at.returns-in-Some c).In_ok-curves) in
     checked_edges (shape c.args.draft.now) c.in-Some.edge (sym tested ∙ c.in-Some.is)
 
 pub returns-in-Some-first_bad_valence : goal.returns-in-Some-first_bad_valence
 returns-in-Some-first_bad_valence c =
     let at = goal.at.returns-in-Some-first_bad_valence c in
-    let closed = sym (open_tested at.After-first_open_edge (marks at.In-ok-curves)) ∙ c.in_default.is in
+    let closed = sym (open_tested at.After-first_open_edge (marks at.In_ok-curves)) ∙ c.in_default.is in
     checked_valences (shape c.args.draft.now) closed c.in-Some-first_bad_valence.vertex (sym (valence_tested at.After-first_bad_valence) ∙ c.in-Some-first_bad_valence.is)
 
 pub marked_edges-requires : goal.marked_edges-requires
 marked_edges-requires c =
-    ap length (c.deref-8.ensures.value ∙ marks (goal.at.marked_edges-requires c).In-ok-curves) ∙ marks_long c.args.draft.now c.requires ∙ sym (ap length c.deref-7.ensures.value)
+    ap length (c.deref-8.ensures.value ∙ marks (goal.at.marked_edges-requires c).In_ok-curves) ∙ marks_long c.args.draft.now c.requires ∙ sym (ap length c.deref-7.ensures.value)
 
 pub returns-in-Some-first_bad_dimension : goal.returns-in-Some-first_bad_dimension
 returns-in-Some-first_bad_dimension c =
     let at = goal.at.returns-in-Some-first_bad_dimension c in
-    let marked_by = marks at.In-ok-curves in
+    let marked_by = marks at.In_ok-curves in
     let closed = sym (open_tested at.After-first_open_edge marked_by) ∙ c.in_default.is in
     let used = sym (valence_tested at.After-first_bad_valence) ∙ c.in_default-first_bad_valence.is in
     checked_dimensions (shape c.args.draft.now) closed used c.in-Some-first_bad_dimension.vertex (sym (dimension_tested at.After-first_bad_dimension marked_by) ∙ c.in-Some-first_bad_dimension.is)
@@ -74,7 +74,7 @@ returns-in-Some-first_bad_dimension c =
 pub returns : goal.returns
 returns c =
     let at = goal.at.returns c in
-    let marked_by = marks at.In-ok-curves in
+    let marked_by = marks at.In_ok-curves in
     let closed = sym (open_tested at.After-first_open_edge marked_by) ∙ c.in_default.is in
     let used = sym (valence_tested at.After-first_bad_valence) ∙ c.in_default-first_bad_valence.is in
     record {

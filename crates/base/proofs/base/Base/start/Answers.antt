@@ -9,4 +9,9 @@ invariant_of-result c =
     let s = c.in_ok-sides.ensures.items in
     let e = c.in_ok-edges.ensures.items in
     let m = c.in_ok-curves.ensures.items in
-    (simp (z, s), (simp (z, s), (simp (z, s, e) round_edges, (simp (d, z, s, m) (∣ starting_rules ∣₁), tt))))
+    record {
+      total = simp (z, s);
+      sided = simp (z, s);
+      edged = simp (z, s, e) round_edges;
+      rules = simp (d, z, s, m) (∣ starting_rules ∣₁);
+    }

@@ -4,4 +4,4 @@ use Rattle.curve.proofs.questions.CurveHierarchy.faces.Goals as goal
 pub returns : goal.returns
 returns c =
     let it = c.args.self.now in
-    no_faces it.closed it.points it.levels c.args.-level
+    no_faces it.closed it.points it.levels c.args._level
