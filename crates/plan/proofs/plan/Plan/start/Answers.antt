@@ -31,17 +31,20 @@ fill_levels-requires c =
       some = omega arith;
       few = omega arith;
       laid = c.lay_out-blocks.ensures;
-      within = omega (arith, ap (λ x. x.at) (c.lay_out-blocks.ensures 1 (omega arith)), at_needs s (rules_from s b.rules) 1, c.deref-mut.ensures.len, c.in_ok-table.ensures.len);
+      within = omega (arith, ap (λ x. x.at) (c.lay_out-blocks.ensures 1 (omega arith)), at_needs s (rules_from s b.rules) 1, c.deref_mut.ensures.len, c.in_ok-table.ensures.len);
     }
 
 pub invariant_of-result : goal.invariant_of-result
 invariant_of-result c =
     let b = c.in_ok-base.base in
-    let filled = with_items_is c.in_ok-table.table c.fill_levels.new.table (c.fill_levels.auto.table ∙ c.deref-mut.ensures.len) in
+    let filled = with_items_is c.in_ok-table.table c.fill_levels.new.table (c.fill_levels.auto.table ∙ c.deref_mut.ensures.len) in
     let told = ap (λ (l : List ℕ). tells l 1 c.lay_out-blocks.result) filled ∙ c.fill_levels.ensures.told in
-    (omega arith, (∣ subst Lawful (sym told) (start_lawful (shape b) (rules_from (shape b) b.rules)) ∣₁, tt))
+    record {
+      shallow = omega arith;
+      lawful = ∣ subst Lawful (sym told) (start_lawful (shape b) (rules_from (shape b) b.rules)) ∣₁;
+    }
 
 pub returns : goal.returns
 returns c =
-    let filled = with_items_is c.in_ok-table.table c.fill_levels.new.table (c.fill_levels.auto.table ∙ c.deref-mut.ensures.len) in
+    let filled = with_items_is c.in_ok-table.table c.fill_levels.new.table (c.fill_levels.auto.table ∙ c.deref_mut.ensures.len) in
     ap (λ (l : List ℕ). tells l 1 c.lay_out-blocks.result) filled ∙ c.fill_levels.ensures.told ∙ ap (λ s. hierarchy (surface s) 1) c.in_ok-base.ensures
