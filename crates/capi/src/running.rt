@@ -45,7 +45,7 @@ fn serve<H: Hierarchy, V: Crossing, S: Scheme<Value = V>>(
     requires slots { length list.old ≡ length slots.old }
     requires answers { length room.old ≡ length answers.old }
     ensures promise { Promise (H.meaning h.now) (rule S.Scheme V.ValueKind s.now) (S.Scheme.uniform s.now) depth calls.now (lent_to points.old list.old room.old) (lent_to points.new list.new room.new) result }
-    ensures written { handed points.new slots.new answers.new ≡ written V.Crossing result (handed points.old slots.old answers.old) (lent_to points.new list.new room.new) }
+    ensures written { handed points.new slots.new answers.new ≡ written V.Crossing.own result (handed points.old slots.old answers.old) (lent_to points.new list.new room.new) }
 {
     let count = perform(h, s, points, list, depth, calls, room)?;
     write_front(slots, list, list.len());
@@ -64,7 +64,7 @@ fn run<H: Hierarchy, V: Crossing, S: Scheme<Value = V>>(
     calls: &[CallRecord],
     answers: &mut [AnswerRecord],
 ) -> Result<usize, Stop>
-    ensures { Performs V.Crossing (H.meaning h.now) (law_of S.Scheme V.ValueKind s.now) depth calls.now (handed points.old slots.old answers.old) (handed points.new slots.new answers.new) result }
+    ensures { Performs V.Crossing.own (H.meaning h.now) (law_of S.Scheme V.ValueKind s.now) depth calls.now (handed points.old slots.old answers.old) (handed points.new slots.new answers.new) result }
 {
     check_calls(calls)?;
     let calls: Vec<Call<V>> = read_all(heap, calls)?;
