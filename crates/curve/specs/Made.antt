@@ -2,7 +2,6 @@
 use Rattle.std.specs.Prelude.{◌≡◌, ℕ, Bool, cond, ◌&&◌, Some, None, Ok, Err, Option, Result, nat_le}
 use Rattle.refusal.specs.declared.Refusal.{Refusal}
 use Rattle.refusal.specs.declared.Refusal.TheVariants.{CurveSize, LevelCount}
-use Rattle.hierarchy.specs.Limits.{has_levels}
 use Rattle.hierarchy.specs.Meaning.{Meaning}
 use Rattle.levels.specs.Level.{Level}
 use Rattle.levels.specs.Curves.{curve_level}
@@ -16,9 +15,12 @@ coarsest c = curve_level c.closed c.points
 abbrev pub means : Curve → Meaning
 means c = hierarchy (coarsest c) c.levels
 
--- a closed curve has 3 to 1024 points, an open one 2 to 1024
+-- a closed curve has 3 to 1024 points, an open one 2 to 1024, and either has 1 to 5 levels
 abbrev pub has_size : Bool → ℕ → Bool
 has_size closed points = nat_le (cond closed 3 2) points && nat_le points 1024
+
+abbrev pub has_levels : ℕ → Bool
+has_levels levels = nat_le 1 levels && nat_le levels 5
 
 -- why no curve is made; the number of points is judged first
 abbrev pub refused : Bool → ℕ → ℕ → Option Refusal

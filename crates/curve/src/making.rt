@@ -1,9 +1,8 @@
 // Making a curve, or saying why there is none.
 ghost use Rattle.std.specs.Prelude.{◌≡◌, ◌≤◌};
-ghost use Rattle.curve.specs.Made.{Making, means, has_size};
+ghost use Rattle.curve.specs.Made.{Making, means, has_size, has_levels};
 
 use crate::curve::Curve;
-use hierarchy::has_levels;
 use refusal::Refusal;
 
 // Whether a curve may have so many points.
@@ -12,6 +11,12 @@ fn has_size(points: usize, closed: bool) -> bool
 {
     let least = if closed { 3 } else { 2 };
     least <= points && points <= 1024
+}
+
+fn has_levels(levels: usize) -> bool
+    ensures { result ≡ has_levels levels }
+{
+    1 <= levels && levels <= 5
 }
 
 impl Curve {

@@ -117,11 +117,11 @@ impl Hierarchy for Curve {
         self.found(level, link, of)
     }
 
-    fn degree(&self, list: Few) -> usize {
+    fn list_length(&self, list: Few) -> usize {
         list.count()
     }
 
-    fn member(&self, list: Few, k: usize) -> usize {
+    fn list_member(&self, list: Few, k: usize) -> usize {
         list.get(k)
     }
 

@@ -41,11 +41,9 @@ fn goes_round_at_the_seam(rt: HostRuntime) -> Result<(), Fail> {
     let Ok(curve) = Curve::new(3, true, 2) else {
         return Err(Fail::new("refused"));
     };
-    let ends = curve.list(1, Link::EdgeEnds, 5);
-    assert_eq!(rt; curve.member(ends, 0), 0);
-    assert_eq!(rt; curve.member(ends, 1), 5);
-    let edges = curve.list(1, Link::VertexEdges, 0);
-    assert_eq!(rt; curve.member(edges, 1), 5);
-    assert_eq!(rt; curve.degree(edges), 2);
+    assert_eq!(rt; curve.member(1, Link::EdgeEnds, 5, 0), 0);
+    assert_eq!(rt; curve.member(1, Link::EdgeEnds, 5, 1), 5);
+    assert_eq!(rt; curve.member(1, Link::VertexEdges, 0, 1), 5);
+    assert_eq!(rt; curve.degree(1, Link::VertexEdges, 0), 2);
     Ok(())
 }

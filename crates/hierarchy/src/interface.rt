@@ -34,13 +34,27 @@ pub trait Hierarchy {
     fn list(&self, level: usize, link: Link, of: usize) -> Self::Listing
         ensures { listed self.now result ≡ (meaning self.now).list level link of };
 
-    // How many members a list has.
-    fn degree(&self, list: Self::Listing) -> usize
+    // How many members a list has that was found.
+    fn list_length(&self, list: Self::Listing) -> usize
         ensures { result ≡ length (listed self.now list) };
 
-    // Member `k` of a list; 0 past its end.
-    fn member(&self, list: Self::Listing, k: usize) -> usize
+    // Member `k` of a list that was found; 0 past its end.
+    fn list_member(&self, list: Self::Listing, k: usize) -> usize
         ensures { result ≡ slice_index (listed self.now list) k };
+
+    // How many members the list has.
+    fn degree(&self, level: usize, link: Link, of: usize) -> usize
+        ensures { result ≡ length ((meaning self.now).list level link of) }
+    {
+        self.list_length(self.list(level, link, of))
+    }
+
+    // Member `k` of the list; 0 past its end.
+    fn member(&self, level: usize, link: Link, of: usize, k: usize) -> usize
+        ensures { result ≡ slice_index ((meaning self.now).list level link of) k }
+    {
+        self.list_member(self.list(level, link, of), k)
+    }
 
     fn is_curve(&self, level: usize, edge: usize) -> bool
         ensures { result ≡ (meaning self.now).curve level edge };

@@ -17,8 +17,8 @@ fn show_list<H: Hierarchy>(
     of: usize,
 ) -> io::Result<()> {
     let list = h.list(level, link, of);
-    for k in 0..h.degree(list) {
-        let member = h.member(list, k);
+    for k in 0..h.list_length(list) {
+        let member = h.list_member(list, k);
         print!(rt; " {member}")?;
     }
     Ok(())

@@ -10,6 +10,7 @@ pub mod Hierarchies
 pub mod CurveSound
 pub mod Rounds
 pub mod SurfaceSound
+pub mod Cube
 pub mod CurveCounts
 pub mod CurveLawful
 pub mod Refining

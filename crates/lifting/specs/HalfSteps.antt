@@ -34,9 +34,9 @@ on_the_way opposite Up a = opposite a
 abbrev pub amount_from : {V : Type 0} → Meaning → Rule V → Step → ℕ → Class → ℕ → Reads ℕ → List V → V
 amount_from m r step j c i q vs = r.amount step c (dimension_of m j c i) (values_read m r.zero vs j q)
 
--- from those that it reads
+-- how much a step adds to the point of this class and number, when these values stand
 abbrev pub amount_at : {V : Type 0} → Meaning → Rule V → Step → ℕ → Class → ℕ → List V → V
-amount_at m r step j c i vs = amount_from m r step j c i (read_by m step j c i) vs
+amount_at m r step j c i vs = r.amount step c (dimension_of m j c i) (values_read m r.zero vs j (read_by m step j c i))
 
 -- what stands at a place after a half step: where a point of the class stands, the old value with the amount added on the right,
 -- from what the point reads as it was before; anywhere else the old value

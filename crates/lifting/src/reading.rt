@@ -4,7 +4,7 @@ ghost use Rattle.schemes.specs.Readings.{Reads};
 ghost use Rattle.schemes.specs.declared.steps.Class.TheVariants.{Vertex, Edge, Face};
 ghost use Rattle.schemes.specs.declared.steps.Step.TheVariants.{Second};
 ghost use Rattle.lifting.specs.Places.{dimension_of};
-ghost use Rattle.lifting.specs.Reading.{s_lift_reads, w_lift_reads, values_of};
+ghost use Rattle.lifting.specs.Reading.{s_lift_reads, w_lift_reads, read_by, values_of, values_read};
 ghost use Rattle.lifting.specs.Gathering.{Laid, start_of, target_class, chosen, with_read};
 ghost use Rattle.lifting.specs.HalfSteps.{rule, amount_from, amount_at};
 
@@ -63,13 +63,122 @@ fn gather<H: Hierarchy, S: Scheme>(
     let from = first(at, class);
     let mut sum = start;
     let found = h.list(at.level, link, of);
-    for k in 0..h.degree(found) {
-        let number = h.member(found, k);
+    for k in 0..h.list_length(found) {
+        let number = h.list_member(found, k);
         if is_read(h, at.level, number, curves_only) {
             sum = s.gather(sum, class, values[from + number]);
         }
     }
     sum
+}
+
+// What a vertex reads in an s-lift: by its dimension its edges and faces, its curve edges, or nothing.
+fn around_vertex<H: Hierarchy, S: Scheme>(
+    h: &H,
+    s: &S,
+    values: &[S::Value],
+    at: Layout,
+    vertex: usize,
+) -> S::Sum
+    requires { Laid (H.meaning h.now) at (length values.now) }
+    ensures { S.Scheme.holds result (values_read (H.meaning h.now) S.Value.ValueKind.zero values.now at.level (s_lift_reads (H.meaning h.now) at.level Vertex vertex)) }
+{
+    match h.dimension(at.level, vertex) {
+        2 => {
+            let edges = gather(
+                h,
+                s,
+                values,
+                at,
+                Link::VertexEdges,
+                vertex,
+                false,
+                s.start(),
+            );
+            gather(h, s, values, at, Link::VertexFaces, vertex, false, edges)
+        }
+        1 => gather(h, s, values, at, Link::VertexEdges, vertex, true, s.start()),
+        _ => s.start(),
+    }
+}
+
+// What an edge reads in an s-lift: its faces, unless it is a curve.
+fn beside_edge<H: Hierarchy, S: Scheme>(
+    h: &H,
+    s: &S,
+    values: &[S::Value],
+    at: Layout,
+    edge: usize,
+) -> S::Sum
+    requires { Laid (H.meaning h.now) at (length values.now) }
+    ensures { S.Scheme.holds result (values_read (H.meaning h.now) S.Value.ValueKind.zero values.now at.level (s_lift_reads (H.meaning h.now) at.level Edge edge)) }
+{
+    if h.is_curve(at.level, edge) {
+        return s.start();
+    }
+    gather(h, s, values, at, Link::EdgeFaces, edge, false, s.start())
+}
+
+// What a face reads in a w-lift: its vertices and edges.
+fn around_face<H: Hierarchy, S: Scheme>(
+    h: &H,
+    s: &S,
+    values: &[S::Value],
+    at: Layout,
+    face: usize,
+) -> S::Sum
+    requires { Laid (H.meaning h.now) at (length values.now) }
+    ensures { S.Scheme.holds result (values_read (H.meaning h.now) S.Value.ValueKind.zero values.now at.level (w_lift_reads (H.meaning h.now) at.level Face face)) }
+{
+    let vertices = gather(h, s, values, at, Link::FaceVertices, face, false, s.start());
+    gather(h, s, values, at, Link::FaceEdges, face, false, vertices)
+}
+
+// What an edge reads in a w-lift: its ends.
+fn along_edge<H: Hierarchy, S: Scheme>(
+    h: &H,
+    s: &S,
+    values: &[S::Value],
+    at: Layout,
+    edge: usize,
+) -> S::Sum
+    requires { Laid (H.meaning h.now) at (length values.now) }
+    ensures { S.Scheme.holds result (values_read (H.meaning h.now) S.Value.ValueKind.zero values.now at.level (w_lift_reads (H.meaning h.now) at.level Edge edge)) }
+{
+    gather(h, s, values, at, Link::EdgeEnds, edge, false, s.start())
+}
+
+// What a point reads in a step.
+fn read<H: Hierarchy, S: Scheme>(
+    h: &H,
+    s: &S,
+    values: &[S::Value],
+    at: Layout,
+    step: Step,
+    class: Class,
+    number: usize,
+) -> S::Sum
+    requires { Laid (H.meaning h.now) at (length values.now) }
+    ensures { S.Scheme.holds result (values_read (H.meaning h.now) S.Value.ValueKind.zero values.now at.level (read_by (H.meaning h.now) step at.level class number)) }
+{
+    match (step, class) {
+        (Step::First | Step::Third, Class::Vertex) => around_vertex(h, s, values, at, number),
+        (Step::First | Step::Third, Class::Edge) => beside_edge(h, s, values, at, number),
+        (Step::Second, Class::Edge) => along_edge(h, s, values, at, number),
+        (Step::Second, Class::Face) => around_face(h, s, values, at, number),
+        // such a half step is not made
+        (Step::First | Step::Third, Class::Face) | (Step::Second, Class::Vertex) => s.start(),
+    }
+}
+
+fn dimension<H: Hierarchy>(h: &H, level: usize, class: Class, number: usize) -> u8
+    ensures { result ≡ dimension_of (H.meaning h.now) level class number }
+{
+    match class {
+        Class::Vertex => h.dimension(level, number),
+        Class::Edge => { if h.is_curve(level, number) { 1 } else { 2 } }
+        Class::Face => 2,
+    }
 }
 
 // The four that follow ask a scheme with class and dimension as constants where they can: the cases of its amount are then decided when
@@ -102,10 +211,12 @@ fn s_lift_vertex<H: Hierarchy, S: Scheme>(
             let sum = gather(h, s, values, at, Link::VertexFaces, vertex, false, edges);
             s.amount(step, Class::Vertex, 2, sum)
         }
-        1 => {
-            let curves = gather(h, s, values, at, Link::VertexEdges, vertex, true, s.start());
-            s.amount(step, Class::Vertex, 1, curves)
-        }
+        1 => s.amount(
+            step,
+            Class::Vertex,
+            1,
+            around_vertex(h, s, values, at, vertex),
+        ),
         _ => s.amount(step, Class::Vertex, 0, s.start()),
     }
 }
@@ -140,15 +251,12 @@ fn w_lift_face<H: Hierarchy, S: Scheme>(
     requires { Laid (H.meaning h.now) at (length values.now) }
     ensures { result ≡ amount_from (H.meaning h.now) (rule S.Scheme S.Value.ValueKind s.now) Second at.level Face face (w_lift_reads (H.meaning h.now) at.level Face face) values.now }
 {
-    let vertices = gather(h, s, values, at, Link::FaceVertices, face, false, s.start());
-    let sum = gather(h, s, values, at, Link::FaceEdges, face, false, vertices);
-    s.amount(Step::Second, Class::Face, 2, sum)
-}
-
-fn edge_dimension<H: Hierarchy>(h: &H, level: usize, edge: usize) -> u8
-    ensures { result ≡ dimension_of (H.meaning h.now) level Edge edge }
-{
-    if h.is_curve(level, edge) { 1 } else { 2 }
+    s.amount(
+        Step::Second,
+        Class::Face,
+        2,
+        around_face(h, s, values, at, face),
+    )
 }
 
 // How much a w-lift adds to an edge. It reads its ends.
@@ -162,11 +270,11 @@ fn w_lift_edge<H: Hierarchy, S: Scheme>(
     requires { Laid (H.meaning h.now) at (length values.now) }
     ensures { result ≡ amount_from (H.meaning h.now) (rule S.Scheme S.Value.ValueKind s.now) Second at.level Edge edge (w_lift_reads (H.meaning h.now) at.level Edge edge) values.now }
 {
-    let ends = gather(h, s, values, at, Link::EdgeEnds, edge, false, s.start());
+    let ends = along_edge(h, s, values, at, edge);
     s.amount(
         Step::Second,
         Class::Edge,
-        edge_dimension(h, at.level, edge),
+        dimension(h, at.level, Class::Edge, edge),
         ends,
     )
 }
@@ -190,15 +298,9 @@ pub(crate) fn amount<H: Hierarchy, S: Scheme>(
         (Step::Second, Class::Face) => w_lift_face(h, s, values, at, number),
         (Step::Second, Class::Edge) => w_lift_edge(h, s, values, at, number),
         // such half steps are not made
-        (Step::First, Class::Face) => s.amount(Step::First, Class::Face, 2, s.start()),
-        (Step::Third, Class::Face) => s.amount(Step::Third, Class::Face, 2, s.start()),
-        (Step::Second, Class::Vertex) => {
-            s.amount(
-                Step::Second,
-                Class::Vertex,
-                h.dimension(at.level, number),
-                s.start(),
-            )
+        (Step::First | Step::Third, Class::Face) | (Step::Second, Class::Vertex) => {
+            let sum = read(h, s, values, at, step, class, number);
+            s.amount(step, class, dimension(h, at.level, class, number), sum)
         }
     }
 }

@@ -72,11 +72,11 @@ impl Hierarchy for Plan {
         }
     }
 
-    fn degree(&self, list: Span) -> usize {
+    fn list_length(&self, list: Span) -> usize {
         list.count
     }
 
-    fn member(&self, list: Span, k: usize) -> usize {
+    fn list_member(&self, list: Span, k: usize) -> usize {
         tell::member(&self.table, list, k)
     }
 

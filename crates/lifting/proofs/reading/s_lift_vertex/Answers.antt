@@ -1,8 +1,9 @@
-use Rattle.std.proofs.Common.{◌≡◌, [], sym, ◌∙◌, arith, rules}
+use Rattle.std.proofs.Common.{◌≡◌, [], sym, ap, ◌∙◌, arith, rules}
 use Rattle.hierarchy.specs.declared.link.Link.TheVariants.{VertexEdges}
 use Rattle.schemes.specs.Readings.{none_read}
 use Rattle.lifting.specs.HalfSteps.{rule}
-use Rattle.lifting.specs.Reading.{values_read}
+use Rattle.schemes.specs.declared.steps.Class.TheVariants.{Vertex}
+use Rattle.lifting.specs.Reading.{s_lift_reads, values_read}
 use Rattle.lifting.proofs.Amounts.{at_dimension}
 use Rattle.lifting.proofs.reading.s_lift_vertex.Goals as goal
 
@@ -18,9 +19,9 @@ returns-in-2 g c =
 pub returns-in-1 : goal.returns-in-1
 returns-in-1 g c =
     let m = g.H.Hierarchy.meaning c.args.h.now in
-    let r = rule g.S.Scheme g.S.Value.ValueKind c.args.s.now in
-    c.amount-in-1.ensures _ (c.gather-curves.ensures none_read c.start-in-1.ensures)
-    ∙ at_dimension m r c.args.step c.args.at.level c.args.values.now c.args.vertex 1 (sym c.dimension.ensures ∙ c.in-1.is)
+    let read = values_read m g.S.Value.ValueKind.zero c.args.values.now c.args.at.level (s_lift_reads m c.args.at.level Vertex c.args.vertex) in
+    c.amount-in-1.ensures read c.around_vertex.ensures
+    ∙ ap (λ d. g.S.Scheme.amount c.args.s.now c.args.step Vertex d read) (sym c.in-1.is ∙ c.dimension.ensures)
 
 pub returns-in_default : goal.returns-in_default
 returns-in_default g c =

@@ -1,5 +1,4 @@
 use Rattle.std.proofs.Common.{◌≡◌, ap, ◌∙◌}
-use Rattle.schemes.specs.Readings.{none_read}
 use Rattle.schemes.specs.declared.steps.Class.TheVariants.{Edge}
 use Rattle.schemes.specs.declared.steps.Step.TheVariants.{Second}
 use Rattle.lifting.specs.Reading.{w_lift_reads, values_read}
@@ -9,5 +8,5 @@ pub returns : goal.returns
 returns g c =
     let m = g.H.Hierarchy.meaning c.args.h.now in
     let read = values_read m g.S.Value.ValueKind.zero c.args.values.now c.args.at.level (w_lift_reads m c.args.at.level Edge c.args.edge) in
-    c.amount.ensures read (c.gather-ends.ensures none_read c.start.ensures)
-    ∙ ap (λ d. g.S.Scheme.amount c.args.s.now Second Edge d read) c.edge_dimension.ensures
+    c.amount.ensures read c.along_edge-ends.ensures
+    ∙ ap (λ d. g.S.Scheme.amount c.args.s.now Second Edge d read) c.dimension.ensures
