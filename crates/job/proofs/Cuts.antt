@@ -3,7 +3,7 @@ use Rattle.std.proofs.Common.{◌≡◌, ℕ, ◌<◌, Bool, true, false, cond, 
 use Rattle.std.proofs.ByRecursion.{All-push}
 use Rattle.std.proofs.lemmas.Bool.{ne_eqb, eqb-true, eqb-false}
 use Rattle.std.specs.List.{AllByRecursion as All}
-use Rattle.job.specs.Words.{space, unless_empty, words_from, words, Word, Cut, spaced_after, spaced}
+use Rattle.job.specs.Words.{space, unless_empty, words_from, words, Word, Cut}
 
 abbrev pub Solid : List ℕ → Type 0
 Solid w = All (λ b. b ≡ space → ⊥) w
@@ -60,11 +60,3 @@ cut_from w (b ∷ bs) s = cut_by_byte b bs (cut_from [] bs tt) w (eqb b space) s
 pub words_cut : (bs : List ℕ) → Cut bs (words bs)
 unfolding words
 words_cut bs = cut_from [] bs tt
-
-words_first : (w : List ℕ) (ws : List (List ℕ)) → Word w → words (w ++ spaced_after ws) ≡ w ∷ words (spaced ws)
-words_first w [] h = rw append-nil (words_last w h ∙ ap (λ vs. w ∷ vs) (sym words_nil))
-words_first w (v ∷ ws) h = words_word w (v ++ spaced_after ws) h
-
-pub words_spaced : (ws : List (List ℕ)) → All Word ws → words (spaced ws) ≡ ws
-words_spaced [] h = words_nil
-words_spaced (w ∷ ws) h = words_first w ws h.0 ∙ ap (λ vs. w ∷ vs) (words_spaced ws h.1)

@@ -1,4 +1,3 @@
 pub mod Lines
 pub mod Meaning
-pub mod Numbers
 pub mod Words

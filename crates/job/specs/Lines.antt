@@ -1,22 +1,19 @@
 -- The values of the code, as what they say. Assumes nothing.
 use Rattle.std.specs.Prelude.{◌≡◌, ℕ, ◌<◌, min, List, [], ◌∷◌, ◌++◌, map, length, take, IfSome, Some, None, Ok, Err, codes, decimal, Option, Result}
 use Rattle.std.specs.Borrow.{Bor}
-use Rattle.job.specs.declared.command.Command.{Command}
-use Rattle.job.specs.declared.command.Command.TheVariants.{Base, Plan, Curve}
-use Rattle.job.specs.declared.command.Complaint.{Complaint}
-use Rattle.job.specs.declared.command.Complaint.TheVariants.{UnknownWord, WordCount, BadWord}
-use Rattle.job.specs.Meaning.{Meaning, nothing, base, plan, curve, unknown, wrong_count, bad_word}
+use Rattle.job.specs.declared.Command.{Command}
+use Rattle.job.specs.declared.Command.TheVariants.{Base}
+use Rattle.job.specs.declared.Complaint.{Complaint}
+use Rattle.job.specs.declared.Complaint.TheVariants.{UnknownWord, WordCount}
+use Rattle.job.specs.Meaning.{Meaning, nothing, base, unknown, wrong_count}
 use Rattle.job.specs.Words.{words}
 
 abbrev pub asked : Command → Meaning
 asked (Base file) = base file.now
-asked (Plan levels table) = plan levels table
-asked (Curve closed points levels) = curve closed points levels
 
 abbrev pub refused : Complaint → Meaning
 refused (UnknownWord word) = unknown word.now
 refused (WordCount usage given) = wrong_count usage.now given
-refused (BadWord usage word) = bad_word usage.now word.now
 
 abbrev pub view_command : Result Command Complaint → Meaning
 view_command (Ok command) = asked command
@@ -28,14 +25,8 @@ view (Ok (Some command)) = asked command
 view (Err complaint) = refused complaint
 
 abbrev pub sentence : Complaint → List ℕ
-sentence (UnknownWord word) = codes "unknown command \"" ++ (word.now ++ codes "\"; the commands are: base, plan, curve")
+sentence (UnknownWord word) = codes "unknown command \"" ++ (word.now ++ codes "\"; the commands are: base FILE")
 sentence (WordCount usage given) = codes "wrong number of words, " ++ (decimal given ++ (codes "; this command is written: " ++ usage.now))
-sentence (BadWord usage word) = codes "\"" ++ (word.now ++ (codes "\" does not fit; this command is written: " ++ usage.now))
-
--- what a word says, or that it is bad
-abbrev pub Told : {X : Type 0} → Option X → List ℕ → List ℕ → Result X Complaint → Type 0
-Told said usage w (Ok x) = said ≡ Some x
-Told said usage w (Err complaint) = (said ≡ None) × (refused complaint ≡ bad_word usage w)
 
 abbrev pub texts : List (Bor (List ℕ)) → List (List ℕ)
 texts ws = map (λ w. w.now) ws

@@ -43,12 +43,3 @@ pub record First (bs w rest : List ℕ) : Type 0 where
 abbrev pub Cut : List ℕ → List (List ℕ) → Type 0
 Cut bs [] = Spaces bs
 Cut bs (w ∷ ws) = (rest : List ℕ) × First bs w rest × Cut rest ws
-
--- words in a row, with one space between each two
-abbrev pub spaced_after : List (List ℕ) → List ℕ
-spaced_after [] = []
-spaced_after (w ∷ ws) = space ∷ (w ++ spaced_after ws)
-
-abbrev pub spaced : List (List ℕ) → List ℕ
-spaced [] = []
-spaced (w ∷ ws) = w ++ spaced_after ws

@@ -18,13 +18,10 @@ Where no JOB is given, it is read from standard input. Words are parted by space
 Empty lines, and lines whose first word begins with #, are passed over.
 A FILE is relative to the folder that the program runs in.
 
-  base FILE               reads a base; prints: base VERTICES EDGES FACES
-  plan L [table=T]        plans the base for L levels, in a table of T numbers or of just those
-                          needed; prints: plan FINEST-VERTICES
-  curve open|closed N L   makes the curve of N points for L levels; prints: curve FINEST-VERTICES
+  base FILE   reads a base; prints: base VERTICES EDGES FACES, or: base refused NUMBER VALUE
 
-What is refused prints: COMMAND refused NUMBER VALUE, and the job goes on. A line that is no
-command, or a FILE that cannot be read, ends it with status 1.";
+The job goes on after a refusal. A line that is no command, or a FILE that cannot be read,
+ends it with status 1.";
 
 // The program ends with status 1. Why has been said on standard error.
 #[derive(Debug, Drop)]

@@ -4,7 +4,7 @@ use Rattle.std.proofs.lemmas.Str.Pattern.{split_parts}
 use Rattle.job.specs.Words.{space, words}
 use Rattle.job.proofs.Cuts.{words_nil, words_word, words_last}
 use Rattle.job.proofs.Turns.{words_trimmed, some_before, is_word}
-use Rattle.job.proofs.words.next_word.Goals as goal
+use Rattle.job.proofs.next_word.Goals as goal
 
 pub returns-then-is_empty : goal.returns-then-is_empty
 returns-then-is_empty c =

@@ -1,8 +1,8 @@
 use Rattle.std.proofs.Common.{◌≡◌, ◌+◌, set, sym, ap, ◌∙◌, subst, rules}
 use Rattle.job.specs.Lines.{texts}
 use Rattle.job.proofs.Turns.{Sofar, none_seen, one_more, stored, left_out, counted, held}
-use Rattle.job.proofs.words.split_words.Goals as goal
-use Rattle.job.proofs.words.split_words.Goals.{then-count-room, else-count-room}
+use Rattle.job.proofs.split_words.Goals as goal
+use Rattle.job.proofs.split_words.Goals.{then-count-room, else-count-room}
 
 pub loop-word-init : goal.loop-word-init
 loop-word-init c = (search rules, none_seen c.args.line.now (texts c.args.room.now))
