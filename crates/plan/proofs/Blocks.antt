@@ -24,7 +24,7 @@ use Rattle.plan.proofs.Coarse.{first_counts, few_corners, surface_plain}
 use Rattle.plan.proofs.Plains.{level_plain}
 use Rattle.plan.proofs.Reading.{reads_kept}
 use Rattle.plan.proofs.Showing.{grouped_kept, shows_kept}
-use Rattle.plan.proofs.Settle.{block_first, block_last, told_incident, told_curves, told_dimensions, settled_kept}
+use Rattle.plan.proofs.Settle.{block_first, block_last, loaded_incident, loaded_curves, loaded_dimensions, settled_kept}
 use Rattle.plan.proofs.Worked.{next_counted}
 
 array_clear : (b : Block) (a : Array) (low high : ℕ) → (b.at + 16 * b.corners ≤ low) ⊎ (high ≤ b.at) → Clear b a low high
@@ -187,7 +187,7 @@ module _ (s : Shape) (rules : Rules s) where
       vertices = fun_ext (counted (λ b. b.vertices) (λ n. n.vertices) (λ j. (counts_at j).vertices)) i;
       edges = fun_ext (counted (λ b. b.edges) (λ n. n.edges) (λ j. (counts_at j).edges)) i;
       faces = fun_ext (counted (λ b. b.faces) (λ n. n.faces) (λ j. (counts_at j).faces)) i;
-      list = fun_ext (λ j. fun_ext (λ link. fun_ext (λ k. alike_where (ltb j levels) _ _ [] (λ h. told_incident t (block_of bs j) (level m j) (here j h) link k)))) i;
-      curve = fun_ext (λ j. fun_ext (λ e. alike_where (ltb j levels) _ _ false (λ h. told_curves t (block_of bs j) (level m j) (here j h) e) ∙ and_where (ltb j levels) (ltb e (level m j).edges) ((level m j).curve e))) i;
-      dimension = fun_ext (λ j. fun_ext (λ v. alike_where (ltb j levels) _ _ 0 (λ h. told_dimensions t (block_of bs j) (level m j) (here j h) v) ∙ and_number (ltb j levels) (ltb v (level m j).vertices) ((level m j).dimension v))) i;
+      list = fun_ext (λ j. fun_ext (λ link. fun_ext (λ k. alike_where (ltb j levels) _ _ [] (λ h. loaded_incident t (block_of bs j) (level m j) (here j h) link k)))) i;
+      curve = fun_ext (λ j. fun_ext (λ e. alike_where (ltb j levels) _ _ false (λ h. loaded_curves t (block_of bs j) (level m j) (here j h) e) ∙ and_where (ltb j levels) (ltb e (level m j).edges) ((level m j).curve e))) i;
+      dimension = fun_ext (λ j. fun_ext (λ v. alike_where (ltb j levels) _ _ 0 (λ h. loaded_dimensions t (block_of bs j) (level m j) (here j h) v) ∙ and_number (ltb j levels) (ltb v (level m j).vertices) ((level m j).dimension v))) i;
     }

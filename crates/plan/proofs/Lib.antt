@@ -4,12 +4,12 @@ pub mod Reading
 pub mod Grouping
 pub mod Showing
 pub mod Plains
-pub mod Drawing
 pub mod Crossing
 pub mod Telling
 pub mod Settle
 pub mod Ends
 pub mod Worked
+pub mod Asked
 pub mod Finding
 pub mod Coarse
 pub mod Blocks

@@ -1,12 +1,12 @@
--- A settled block tells what was drawn from it before. Assumes nothing.
-use Rattle.std.proofs.Common.{◌≡◌, ℕ, ◌+◌, ◌-◌, ◌*◌, ◌/◌, ◌<◌, ◌≤◌, min, max, Bool, true, false, cond, ◌&&◌, eqb, ltb, ◌⊎◌, List, [], ◌∷◌, map, length, get_or, sym, refl, ap, ◌∙◌, subst, ap₂, inl, inr, ⊎_elim, add-zero, add_assoc, arith}
+-- A settled block tells what it told before it was settled. Assumes nothing.
+use Rattle.std.proofs.Common.{◌≡◌, ℕ, ◌+◌, ◌-◌, ◌*◌, ◌<◌, ◌≤◌, min, max, Bool, true, false, cond, ◌&&◌, eqb, ltb, ◌⊎◌, List, [], ◌∷◌, map, length, get_or, sym, refl, ap, ◌∙◌, ap₂, ⊎_elim, add-zero, add_assoc, arith}
 use native.Mathlib.Nat.{min-eq_left, min-eq_right, max-eq_left, max-eq_right}
-use Rattle.std.specs.List.{range_with_len, AllByRecursion as All}
+use Rattle.std.specs.List.{range_with_len}
 use Rattle.std.proofs.lemmas.List.FromFn.{length-range_with_len}
 use Rattle.std.proofs.ByRecursion.{All-weaker}
 use Rattle.std.proofs.lemmas.Simd.{map-map}
 use Rattle.std.proofs.lemmas.List.Sums.{length-filter, count_by-le-length}
-use Rattle.std.proofs.lemmas.Bool.{cases_eq, cases_lt, cond-true, cond-false, lt-ltb, le-ltb, ltb-true}
+use Rattle.std.proofs.lemmas.Bool.{cases_lt, cond-true, cond-false, lt-ltb, le-ltb, ltb-true}
 use Rattle.hierarchy.specs.declared.link.Link.{Link}
 use Rattle.hierarchy.specs.declared.link.Link.TheVariants.{EdgeEnds, EdgeFaces, FaceVertices, FaceEdges, VertexEdges, VertexFaces}
 use Rattle.levels.specs.Incidence.{incident}
@@ -16,21 +16,20 @@ use Rattle.plan.specs.declared.block.Array.{Array}
 use Rattle.plan.specs.declared.block.Array.TheVariants.{Ends, Halves, Faces, VertexHalfEnds, VertexHalves, VertexCornerEnds, VertexCorners, EdgeCornerEnds, EdgeCorners, FaceEnds, FaceByVertex, FaceByEdge, Curves, Dimensions}
 use Rattle.plan.specs.declared.settling.Turn.{Turn}
 use Rattle.plan.specs.declared.settling.Turn.TheVariants.{HalfToEdge, CornerToFace, CornerToVertex, CornerToSide}
-use Rattle.plan.specs.Decoded.{decoded, start_of, end_at}
+use Rattle.plan.specs.Decoded.{decoded, start_of}
 use Rattle.plan.specs.Layout.{begins, rooms, reads}
 use Rattle.plan.specs.Settled.{turned, Turned, Same, Ascending, Settled}
 use Rattle.plan.specs.Sorting.{Keeps, sorted}
-use Rattle.plan.specs.Told.{at, Part, numbers, nothing, span_in, span_of, told, told_curve, told_dimension}
-use Rattle.plan.specs.Written.{Counts, Grouped, Standing, corners_by_vertex, corners_by_edge}
+use Rattle.plan.specs.Loaded.{at, Part, numbers, nothing, span_in, loaded, loaded_curve, loaded_dimension}
+use Rattle.plan.specs.Written.{Counts, Grouped, Standing}
 use Rattle.plan.proofs.Crossing.{map_alike}
-use Rattle.plan.proofs.Drawing.{run, ascending, drawn}
-use Rattle.plan.proofs.Grouping.{counting_below, sorted_all}
+use Rattle.plan.specs.Told.{told, run, ascending}
+use Rattle.plan.proofs.Grouping.{counting_below}
 use Rattle.plan.proofs.Places.{keeps_then, keeps_wider}
 use Rattle.plan.proofs.Reading.{reads_in, decoded_kept}
 use Rattle.plan.proofs.Showing.{clears_lists, clears_faces}
 use Rattle.plan.proofs.Plains.{length_sorted_below}
-use Rattle.plan.proofs.Sorts.{sorted_rises}
-use Rattle.plan.proofs.Telling.{drawn_incident}
+use Rattle.plan.proofs.Telling.{told_incident}
 
 -- a list that was turned, number by number, is what its numbers turn into
 turned_run : (t : List ℕ) (e l n : ℕ) (f ends list : ℕ → ℕ) (i : ℕ) → start_of (at t e) i ≡ start_of ends i → at t e i ≡ ends i → ends i ≤ n → ((j : ℕ) → j < n → at t l j ≡ f (list j))
@@ -89,35 +88,35 @@ module _ (t : List ℕ) (b : Block) (m : Level) (settled : Settled t b m) where
   counted : (k : ℕ) → length (range_with_len 0 k) ≡ k
   counted k = length-range_with_len 0 k
 
-  told_drawn : (l : Link) (i : ℕ) → told t b l i ≡ drawn s b l i
-  told_drawn EdgeEnds e =
+  loaded_told : (l : Link) (i : ℕ) → loaded t b l i ≡ told s b l i
+  loaded_told EdgeEnds e =
       same_where (ltb e b.edges) _ _ t (λ h.
       let l = ltb-true e b.edges h in
       let room : 2 * e + 1 < 2 * b.corners = omega (arith, n.edges, n.edge_room, n.corners) in
       let first = ap (λ p. get_or t p 0) (add-zero (begins b Ends + 2 * e)) ∙ settled.ends.lower e l in
       let second = ap (λ p. get_or t p 0) (add_assoc (begins b Ends) (2 * e) 1) ∙ settled.ends.higher e l in
       ap₂ (λ x y. x ∷ y ∷ []) first second ∙ ap₂ (λ x y. min x y ∷ max x y ∷ []) (sym (reads_in s b Ends (2 * e) (omega arith))) (sym (reads_in s b Ends (2 * e + 1) room)) ∙ in_order _ _)
-  told_drawn EdgeFaces e =
+  loaded_told EdgeFaces e =
       same_where (ltb e b.edges) _ _ t (λ h. let l = ltb-true e b.edges h in
       turned_list EdgeCornerEnds EdgeCorners CornerToFace b.corners settled.edge_corner_ends settled.edge_faces settled.standing.lists.edge_corners (omega (arith, counted m.corners, n.corners)) (omega (arith, n.edge_room, n.corners)) (omega arith) e (omega (arith, n.edges)))
-  told_drawn FaceVertices f =
+  loaded_told FaceVertices f =
       same_where (ltb f b.faces) _ _ t (λ h. let l = ltb-true f b.faces h in
       turned_list FaceEnds FaceByVertex CornerToVertex b.corners settled.face_ends settled.face_vertices settled.standing.lists.by_vertex (omega (arith, sorted_few m.vertex m.vertices (range_with_len 0 m.corners), counted m.corners, n.corners)) (omega (arith, n.face_room, n.corners)) (omega arith) f (omega (arith, n.faces)))
-  told_drawn FaceEdges f =
+  loaded_told FaceEdges f =
       same_where (ltb f b.faces) _ _ t (λ h. let l = ltb-true f b.faces h in
       turned_list FaceEnds FaceByEdge CornerToSide b.corners settled.face_ends settled.face_edges settled.standing.lists.by_edge (omega (arith, sorted_few m.side m.edges (range_with_len 0 m.corners), counted m.corners, n.corners)) (omega (arith, n.face_room, n.corners)) (omega arith) f (omega (arith, n.faces)))
-  told_drawn VertexEdges v =
+  loaded_told VertexEdges v =
       same_where (ltb v b.vertices) _ _ t (λ h. let l = ltb-true v b.vertices h in
       turned_list VertexHalfEnds VertexHalves HalfToEdge (2 * b.edges) settled.vertex_half_ends settled.vertex_edges settled.standing.lists.vertex_halves (omega (arith, counted (2 * m.edges), n.edges)) (omega (arith, n.vertex_room, n.corners)) (omega (arith, n.edges, n.edge_room, n.corners)) v (omega (arith, n.vertices)))
-  told_drawn VertexFaces v =
+  loaded_told VertexFaces v =
       same_where (ltb v b.vertices) _ _ t (λ h. let l = ltb-true v b.vertices h in
       turned_list VertexCornerEnds VertexCorners CornerToFace b.corners settled.vertex_corner_ends settled.vertex_faces settled.standing.lists.vertex_corners (omega (arith, counted m.corners, n.corners)) (omega (arith, n.vertex_room, n.corners)) (omega arith) v (omega (arith, n.vertices)))
 
-  pub told_incident : (l : Link) (i : ℕ) → told t b l i ≡ incident m l i
-  told_incident l i = told_drawn l i ∙ drawn_incident s b m settled.standing.shows settled.standing.lists settled.standing.sound settled.standing.plain l i
+  pub loaded_incident : (l : Link) (i : ℕ) → loaded t b l i ≡ incident m l i
+  loaded_incident l i = loaded_told l i ∙ told_incident s b m settled.standing.shows settled.standing.lists settled.standing.sound settled.standing.plain l i
 
-  pub told_curves : (e : ℕ) → told_curve t b e ≡ (ltb e m.edges && m.curve e)
-  told_curves e =
+  pub loaded_curves : (e : ℕ) → loaded_curve t b e ≡ (ltb e m.edges && m.curve e)
+  loaded_curves e =
       and_where (ltb e b.edges) _ _ (λ h.
       let l = ltb-true e b.edges h in
       ap (λ x. eqb x 1) (kept Curves settled.curves e (omega (arith, n.edges, n.edge_room, n.corners)) ∙ settled.standing.shows.curves e (omega (arith, n.edges))) ∙ marks (m.curve e))
@@ -127,8 +126,8 @@ module _ (t : List ℕ) (b : Block) (m : Level) (settled : Settled t b m) where
       marks true = refl
       marks false = refl
 
-  pub told_dimensions : (v : ℕ) → told_dimension t b v ≡ cond (ltb v m.vertices) (m.dimension v) 0
-  told_dimensions v =
+  pub loaded_dimensions : (v : ℕ) → loaded_dimension t b v ≡ cond (ltb v m.vertices) (m.dimension v) 0
+  loaded_dimensions v =
       number_where (ltb v b.vertices) _ _ (λ h.
       let l = ltb-true v b.vertices h in
       kept Dimensions settled.dimensions v (omega (arith, n.vertices, n.vertex_room, n.corners)) ∙ settled.standing.shows.dimensions v (omega (arith, n.vertices)))

@@ -1,11 +1,10 @@
--- What can be drawn from a block that stands for a level and lists it: the level's incidence. Assumes nothing.
-use Rattle.std.proofs.Common.{◌≡◌, ℕ, ◌+◌, ◌-◌, ◌*◌, ◌/◌, ◌%◌, ◌<◌, ◌≤◌, Bool, true, false, cond, ◌&&◌, ◌||◌, eqb, ltb, ◌⊎◌, List, [], map, filter, sym, refl, ap, ◌∙◌, ap₂, ⊎_elim, arith}
+-- A block that stands for a level and lists it tells the level's incidence. Assumes nothing.
+use Rattle.std.proofs.Common.{◌≡◌, ℕ, ◌+◌, ◌*◌, ◌/◌, ◌%◌, ◌<◌, ◌≤◌, Bool, true, false, cond, ◌&&◌, ◌||◌, eqb, ltb, List, [], map, filter, sym, refl, ap, ◌∙◌, ap₂, ⊎_elim, arith}
 use mathlib.Core.Bool.{and_comm}
 use mathlib.Core.Path.{fun_ext}
 use Rattle.std.specs.List.{range_with_len, AllByRecursion as All}
 use Rattle.std.proofs.ByRecursion.{all_kept_by, All-weaker}
 use Rattle.std.proofs.lemmas.Bool.{cases_eq, cases_lt, cond-true, cond-false, lt-ltb, le-ltb, eq-eqb, ne_eqb, eqb-true, and_parts, and_from, or_left, or_right}
-use Rattle.std.proofs.lemmas.Bool.Decides.{nat_tests}
 use Rattle.plan.specs.Sorting.{having, sorted}
 use Rattle.hierarchy.specs.declared.link.Link.{Link}
 use Rattle.hierarchy.specs.declared.link.Link.TheVariants.{EdgeEnds, EdgeFaces, FaceVertices, FaceEdges, VertexEdges, VertexFaces}
@@ -22,7 +21,7 @@ use Rattle.plan.specs.declared.block.Array.TheVariants.{Ends, Halves, Faces, Cur
 use Rattle.plan.specs.Decoded.{end_at}
 use Rattle.plan.specs.Layout.{reads}
 use Rattle.plan.specs.Plain.{Plain}
-use Rattle.plan.proofs.Drawing.{drawn, ascending}
+use Rattle.plan.specs.Told.{told, told_curve, told_dimension, ascending}
 use Rattle.plan.specs.Written.{Counts, Shows, Lists, corners_by_vertex, corners_by_edge}
 use Rattle.plan.proofs.Crossing.{crossed, in_order, group_run, map_alike, ascending_those}
 use Rattle.plan.proofs.Grouping.{counting_below, sorted_all}
@@ -108,33 +107,52 @@ module _ (t : List ℕ) (b : Block) (m : Level) (shows : Shows t b m) (lists : L
   edge_head : (e : ℕ) → e < m.edges → reads t b Ends (2 * e + 1) ≡ m.head e
   edge_head e l = shows.ends (2 * e + 1) (omega arith) ∙ cond-false (eqb ((2 * e + 1) % 2) 0) _ _ (ne_eqb _ 0 (omega arith)) ∙ ap m.head (omega arith)
 
-  drawn_in : (l : Link) (i : ℕ) → i < sources_at m l → drawn t b l i ≡ those (relates m l i) (targets_at m l)
-  drawn_in EdgeEnds i h =
+  told_in : (l : Link) (i : ℕ) → i < sources_at m l → told t b l i ≡ those (relates m l i) (targets_at m l)
+  told_in EdgeEnds i h =
       within i b.edges m.edges _ _ n.edges h ∙ ap₂ ascending (edge_tail i h) (edge_head i h)
       ∙ ascending_those (m.tail i) (m.head i) m.vertices (sound.apart i h) (sound.tails i h) (sound.heads i h)
-  drawn_in EdgeFaces i h =
+  told_in EdgeFaces i h =
       within i b.edges m.edges _ _ n.edges h ∙ ap (map (reads t b Faces)) (group_run _ _ m.side m.edges (range_with_len 0 m.corners) lists.edge_corners i h)
       ∙ faces_at m.side plain.sides_once i
-  drawn_in FaceVertices i h =
+  told_in FaceVertices i h =
       within i b.faces m.faces _ _ n.faces h ∙ ap (map (λ c. reads t b Ends (reads t b Halves c))) (group_run _ _ m.face m.faces (corners_by_vertex m) lists.by_vertex i h)
       ∙ round_face (λ c. reads t b Ends (reads t b Halves c)) m.vertex m.vertices (shown_vertex m sound t b shows) plain.vertices_once i
-  drawn_in FaceEdges i h =
+  told_in FaceEdges i h =
       within i b.faces m.faces _ _ n.faces h ∙ ap (map (λ c. reads t b Halves c / 2)) (group_run _ _ m.face m.faces (corners_by_edge m) lists.by_edge i h)
       ∙ round_face (λ c. reads t b Halves c / 2) m.side m.edges (shown_side m sound t b shows) plain.sides_once i
-  drawn_in VertexEdges i h =
+  told_in VertexEdges i h =
       within i b.vertices m.vertices _ _ n.vertices h ∙ ap (map (λ k. k / 2)) (group_run _ _ (end_at m) m.vertices (range_with_len 0 (2 * m.edges)) lists.vertex_halves i h)
       ∙ halves_at i
-  drawn_in VertexFaces i h =
+  told_in VertexFaces i h =
       within i b.vertices m.vertices _ _ n.vertices h ∙ ap (map (reads t b Faces)) (group_run _ _ m.vertex m.vertices (range_with_len 0 m.corners) lists.vertex_corners i h)
       ∙ faces_at m.vertex plain.vertices_once i
 
-  drawn_past : (l : Link) (i : ℕ) → sources_at m l ≤ i → drawn t b l i ≡ []
-  drawn_past EdgeEnds i h = past i b.edges m.edges _ _ n.edges h
-  drawn_past EdgeFaces i h = past i b.edges m.edges _ _ n.edges h
-  drawn_past FaceVertices i h = past i b.faces m.faces _ _ n.faces h
-  drawn_past FaceEdges i h = past i b.faces m.faces _ _ n.faces h
-  drawn_past VertexEdges i h = past i b.vertices m.vertices _ _ n.vertices h
-  drawn_past VertexFaces i h = past i b.vertices m.vertices _ _ n.vertices h
+  told_past : (l : Link) (i : ℕ) → sources_at m l ≤ i → told t b l i ≡ []
+  told_past EdgeEnds i h = past i b.edges m.edges _ _ n.edges h
+  told_past EdgeFaces i h = past i b.edges m.edges _ _ n.edges h
+  told_past FaceVertices i h = past i b.faces m.faces _ _ n.faces h
+  told_past FaceEdges i h = past i b.faces m.faces _ _ n.faces h
+  told_past VertexEdges i h = past i b.vertices m.vertices _ _ n.vertices h
+  told_past VertexFaces i h = past i b.vertices m.vertices _ _ n.vertices h
 
-  pub drawn_incident : (l : Link) (i : ℕ) → drawn t b l i ≡ incident m l i
-  drawn_incident l i = ⊎_elim (λ (h : i < sources_at m l). drawn_in l i h ∙ sym (incident_in m l i h)) (λ (h : sources_at m l ≤ i). drawn_past l i h ∙ sym (incident_past m sound l i h)) (cases_lt i (sources_at m l))
+  pub told_incident : (l : Link) (i : ℕ) → told t b l i ≡ incident m l i
+  told_incident l i = ⊎_elim (λ (h : i < sources_at m l). told_in l i h ∙ sym (incident_in m l i h)) (λ (h : sources_at m l ≤ i). told_past l i h ∙ sym (incident_past m sound l i h)) (cases_lt i (sources_at m l))
+
+  pub told_curves : (e : ℕ) → told_curve t b e ≡ (ltb e m.edges && m.curve e)
+  told_curves e =
+      ⊎_elim
+      (λ (h : e < m.edges). let s = shows.curves e h in let c = n.edges in
+      ap₂ ◌&&◌ (lt-ltb e b.edges (omega arith)) (ap (λ x. eqb x 1) s ∙ marks (m.curve e)) ∙ sym (ap (λ x. x && m.curve e) (lt-ltb e m.edges h)))
+      (λ (h : m.edges ≤ e). let c = n.edges in ap (λ x. x && eqb (reads t b Curves e) 1) (le-ltb e b.edges (omega arith)) ∙ sym (ap (λ x. x && m.curve e) (le-ltb e m.edges h)))
+      (cases_lt e m.edges)
+    where
+      marks : (x : Bool) → eqb (cond x 1 0) 1 ≡ x
+      marks true = refl
+      marks false = refl
+
+  pub told_dimensions : (v : ℕ) → told_dimension t b v ≡ cond (ltb v m.vertices) (m.dimension v) 0
+  told_dimensions v =
+      ⊎_elim
+      (λ (h : v < m.vertices). within v b.vertices m.vertices _ _ n.vertices h ∙ shows.dimensions v h ∙ sym (within v m.vertices m.vertices _ _ refl h))
+      (λ (h : m.vertices ≤ v). past v b.vertices m.vertices _ _ n.vertices h ∙ sym (past v m.vertices m.vertices _ _ refl h))
+      (cases_lt v m.vertices)

@@ -2,6 +2,7 @@ pub mod Sorting
 pub mod Layout
 pub mod Decoded
 pub mod Told
+pub mod Loaded
 pub mod Written
 pub mod Settled
 pub mod Plain

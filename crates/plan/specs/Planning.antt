@@ -11,7 +11,7 @@ use Rattle.levels.specs.Level.{Level}
 use Rattle.levels.specs.Finer.{level}
 use Rattle.levels.specs.Surfaces.{surface}
 use Rattle.plan.specs.declared.block.Block.{Block}
-use Rattle.plan.specs.Told.{told, told_curve, told_dimension}
+use Rattle.plan.specs.Loaded.{loaded, loaded_curve, loaded_dimension}
 use Rattle.plan.specs.Written.{next}
 
 -- how many corners so many levels have, from the coarsest on
@@ -71,7 +71,7 @@ tells t levels bs = record {
   vertices = λ j. cond (nat_le j levels) (block_of bs j).vertices 0;
   edges = λ j. cond (nat_le j levels) (block_of bs j).edges 0;
   faces = λ j. cond (nat_le j levels) (block_of bs j).faces 0;
-  list = λ j link i. cond (nat_lt j levels) (told t (block_of bs j) link i) [];
-  curve = λ j e. cond (nat_lt j levels) (told_curve t (block_of bs j) e) false;
-  dimension = λ j v. cond (nat_lt j levels) (told_dimension t (block_of bs j) v) 0;
+  list = λ j link i. cond (nat_lt j levels) (loaded t (block_of bs j) link i) [];
+  curve = λ j e. cond (nat_lt j levels) (loaded_curve t (block_of bs j) e) false;
+  dimension = λ j v. cond (nat_lt j levels) (loaded_dimension t (block_of bs j) v) 0;
 }

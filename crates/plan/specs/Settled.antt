@@ -1,5 +1,5 @@
 -- When a block is settled: its lists hold what a question asks for, and no longer the half edges and corners that it is at.
-use Rattle.std.specs.Prelude.{◌≡◌, ℕ, ◌+◌, ◌*◌, ◌/◌, ◌<◌, ◌≤◌, min, max, List}
+use Rattle.std.specs.Prelude.{◌≡◌, ℕ, ◌+◌, ◌*◌, ◌/◌, ◌<◌, min, max, List}
 use Rattle.levels.specs.Level.{Level}
 use Rattle.plan.specs.declared.block.Block.{Block}
 use Rattle.plan.specs.declared.block.Array.{Array}
@@ -8,7 +8,7 @@ use Rattle.plan.specs.declared.settling.Turn.{Turn}
 use Rattle.plan.specs.declared.settling.Turn.TheVariants.{HalfToEdge, CornerToFace, CornerToVertex, CornerToSide}
 use Rattle.plan.specs.Decoded.{decoded}
 use Rattle.plan.specs.Layout.{begins, rooms}
-use Rattle.plan.specs.Told.{at}
+use Rattle.plan.specs.Loaded.{at}
 use Rattle.plan.specs.Written.{Standing}
 
 -- what a half edge or a corner turns into

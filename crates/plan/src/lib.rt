@@ -7,6 +7,7 @@ mod coarsest;
 mod find;
 mod level;
 mod lists;
+mod loading;
 mod plan;
 mod planning;
 mod questions;

@@ -3,12 +3,12 @@ ghost use Rattle.std.specs.Prelude.{◌≡◌, ◌≤◌};
 ghost use Rattle.hierarchy.proofs.Certain.{lawful_from};
 ghost use Rattle.plan.specs.Planning.{block_of};
 ghost use Rattle.plan.specs.Plans.{means};
-ghost use Rattle.plan.specs.Told.{listed};
+ghost use Rattle.plan.specs.Loaded.{listed};
 
 use crate::block::Block;
+use crate::loading;
 use crate::plan::Plan;
 use crate::span::Span;
-use crate::tell;
 use hierarchy::{Hierarchy, Link};
 
 impl Plan {
@@ -68,7 +68,7 @@ impl Hierarchy for Plan {
         if level >= self.levels {
             Span { from: 0, count: 0 }
         } else {
-            tell::find_span(&self.table, self.block(level), link, of)
+            loading::find_span(&self.table, self.block(level), link, of)
         }
     }
 
@@ -77,18 +77,18 @@ impl Hierarchy for Plan {
     }
 
     fn list_member(&self, list: Span, k: usize) -> usize {
-        tell::member(&self.table, list, k)
+        loading::member(&self.table, list, k)
     }
 
     fn is_curve(&self, level: usize, edge: usize) -> bool {
-        level < self.levels && tell::is_curve(&self.table, self.block(level), edge)
+        level < self.levels && loading::is_curve(&self.table, self.block(level), edge)
     }
 
     fn dimension(&self, level: usize, vertex: usize) -> u8 {
         if level >= self.levels {
             0
         } else {
-            tell::dimension(&self.table, self.block(level), vertex) as u8
+            loading::dimension(&self.table, self.block(level), vertex) as u8
         }
     }
 }

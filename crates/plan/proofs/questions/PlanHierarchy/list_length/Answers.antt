@@ -1,6 +1,6 @@
 use Rattle.std.proofs.Common.{vec_items, sym}
 use Rattle.std.proofs.lemmas.List.FromFn.{length-map-range_with_len}
-use Rattle.plan.specs.Told.{at}
+use Rattle.plan.specs.Loaded.{at}
 use Rattle.plan.proofs.questions.PlanHierarchy.list_length.Goals as goal
 
 pub returns : goal.returns
