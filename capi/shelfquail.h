@@ -13,7 +13,7 @@
  *
  * Memory that is needed on the way comes from malloc and is freed before the function returns.
  *
- * Link with target/staticlib/libcapi.a and the kit's librattle_c.a, in this order.
+ * Link with crates/capi/out/libcapi.a and the kit's liblibc_c.a, in this order.
  */
 #ifndef SHELFQUAIL_H
 #define SHELFQUAIL_H

@@ -1,6 +1,14 @@
-"""The test bases, good and refused: make_job.py writes them. Each case states its answer by hand. A case `rNN-...` is
-refused by row NN.
+#!/usr/bin/env python3
+"""Writes the test bases and the job that reads them all, and prints what the program has to print.
+
+    make_bases.py FOLDER > EXPECTED
+
+FOLDER gets one file for each case and the file `job`. Each case states its answer by hand; the expected output
+comes from model.py, and the script stops where the two differ. A case `rNN-...` is refused by row NN.
 """
+import os
+import sys
+
 import model
 
 END = b"\x00"
@@ -296,3 +304,35 @@ GROUPS = [
 def cases(prefix, group):
     for name, data, answer in group():
         yield "%s-%s.base" % (prefix, name), data, "base " + answer
+
+
+def checked(name, data, answer):
+    line = model.report(data)
+    if line != answer:
+        sys.exit("%s: stated %s, but the model gives %s" % (name, answer, line))
+    return line
+
+
+def main():
+    if len(sys.argv) != 2:
+        sys.exit("usage: make_bases.py FOLDER")
+    folder = sys.argv[1]
+    os.makedirs(folder, exist_ok=True)
+    job = ["# Every base of this folder, in groups by the row that refuses it.",
+           "# After each group of refused bases a good one is read again."]
+    for prefix, title, group in GROUPS:
+        job += ["", "# " + title]
+        for name, data, answer in cases(prefix, group):
+            with open(os.path.join(folder, name), "wb") as file:
+                file.write(data)
+            job.append("base " + name)
+            print(checked(name, data, answer))
+        if prefix != "ok":
+            job.append("base ok-cube.base")
+            print(checked("ok-cube.base", CUBE_BASE, "base 8 12 6"))
+    with open(os.path.join(folder, "job"), "w", newline="\n") as file:
+        file.write("\n".join(job) + "\n")
+
+
+if __name__ == "__main__":
+    main()

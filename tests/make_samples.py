@@ -6,7 +6,7 @@
 import os
 import sys
 
-import jobs
+import model
 from make_bases import CUBE_BASE, base, panel, panel_base, panel_dimensions, rim
 
 ROWS, COLUMNS = 3, 2
@@ -21,20 +21,14 @@ SAMPLES = {
 }
 
 JOB = """\
-# A closed cube: all vertices smooth, no curve edges. Two levels of subdivision.
+# A closed cube: all vertices smooth, no curve edges.
 base cube.base
-plan 2
 
-# A panel of 3 by 2 quadrilaterals; its rim edges are curves. The table is one number too short, then just long enough.
+# A panel of 3 by 2 quadrilaterals; its rim edges are curves.
 base panel.base
-plan 1 table=383
-plan 1 table=384
 
 # The same panel with one rim edge's curve record lost: refused, and the panel stays.
 base damaged.base
-
-# A curve of 12 points needs no table.
-curve closed 12 3
 """
 
 
@@ -46,10 +40,9 @@ def main():
     for name, data in SAMPLES.items():
         with open(os.path.join(folder, name), "wb") as file:
             file.write(data)
+        print(model.report(data))
     with open(os.path.join(folder, "first.job"), "w", newline="\n") as file:
         file.write(JOB)
-    for line in jobs.run_job(JOB, folder)[0]:
-        print(line)
 
 
 if __name__ == "__main__":

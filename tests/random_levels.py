@@ -1,7 +1,7 @@
 #!/usr/bin/env python3
 """Compares every answer of planned bases and curves with show_levels.py, on random ones.
 
-    random_levels.py --seed 1 --count 200 --program target/bin/level_tests
+    random_levels.py --seed 1 --count 200 --program crates/level_tests/out/level_tests
 """
 import argparse
 import os

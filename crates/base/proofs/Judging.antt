@@ -1,12 +1,12 @@
 -- The checks that follow the end record. Assumes nothing.
-use Rattle.std.proofs.Common.{◌≡◌, ℕ, Bool, false, not, ◌&&◌, ◌||◌, eqb, ltb, List, [], ◌∷◌, ◌++◌, map, length, get_or, Some, None, Ok, Err, count_by, Option, sym, refl, ap, ◌∙◌, ap₂}
+use Rattle.std.proofs.Common.{◌≡◌, ℕ, Bool, not, ◌||◌, eqb, ltb, List, [], ◌∷◌, ◌++◌, map, length, Some, None, Ok, Err, sym, refl, ap, ◌∙◌, ap₂}
 use mathlib.Core.List.{map-append}
 use mathlib.Core.Path.{fun_ext}
 use Rattle.refusal.specs.declared.Refusal.TheVariants.{OpenEdge, BadValence, BadDimension}
 use Rattle.mesh.specs.declared.Side.{Side}
 use Rattle.mesh.specs.Lowest.{lowest}
 use Rattle.mesh.specs.Reading.{checked, open_edge, bad_valence, bad_dimension}
-use Rattle.mesh.specs.Shape.{Shape, any, joins, nowhere, around, sides, edges, degree, occurs, corners}
+use Rattle.mesh.specs.Shape.{Shape, any, around, sides, edges, degree, occurs, corners}
 use Rattle.base.proofs.Tables.{tails_around}
 
 module _ (s : Shape) where

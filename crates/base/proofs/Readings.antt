@@ -1,5 +1,5 @@
 -- What a read answers, in terms of what was written. Assumes nothing.
-use Rattle.std.proofs.Common.{◌≡◌, ℕ, List, Ok, Err, Result, sym, refl, ap, ◌∙◌, arith, MatchResult}
+use Rattle.std.proofs.Common.{◌≡◌, ℕ, List, Ok, Err, refl, ap, ◌∙◌, arith}
 use Rattle.refusal.specs.declared.Fault.{Fault}
 use Rattle.refusal.specs.declared.Fault.TheVariants.{Refused, Memory}
 use Rattle.mesh.specs.Reading.{reading}
@@ -8,8 +8,7 @@ use Rattle.mesh.specs.Rules.{Rules}
 use Rattle.mesh.specs.Shape.{Shape}
 use Rattle.mesh.proofs.ReadsBack.{reads_back}
 use Rattle.base.specs.declared.base.Base.{Base}
-use Rattle.base.specs.declared.counts.Counts.{Counts}
-use Rattle.base.specs.Bases.{shape, counted, Answers}
+use Rattle.base.specs.Bases.{Answers}
 use Rattle.base.specs.Drafts.{Failed}
 
 module _ (bytes : List ℕ) where

@@ -1,5 +1,5 @@
 -- Which row refuses a record, test by test. Assumes nothing.
-use Rattle.std.proofs.Common.{◌≡◌, ℕ, Bool, true, false, cond, eqb, ltb, leb, List, [], ◌∷◌, ◌++◌, length, Some, None, sym, refl, ◌∙◌, arith}
+use Rattle.std.proofs.Common.{◌≡◌, ℕ, true, false, cond, eqb, ltb, leb, List, [], ◌∷◌, ◌++◌, length, Some, None, sym, refl, ◌∙◌, arith}
 use Rattle.std.proofs.lemmas.Bool.{cond-true, cond-false, ne_eqb, or_right, or_from}
 use Rattle.refusal.specs.declared.Refusal.TheVariants.{OutOfOrder, BadVertex, BadCurve, ThirdFace, TooMany}
 use Rattle.mesh.specs.declared.Side.{Side}

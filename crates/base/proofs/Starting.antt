@@ -1,11 +1,11 @@
 -- The starting base keeps the rules, since its records are read as that base. Assumes nothing.
-use Rattle.std.proofs.Common.{◌≡◌, true, List, [], ◌∷◌, Ok, refl}
+use Rattle.std.proofs.Common.{◌≡◌, List, [], ◌∷◌, Ok, refl}
 use Rattle.mesh.specs.declared.Side.{Side}
 use Rattle.mesh.specs.Lowest.{lowest}
 use Rattle.mesh.specs.Reading.{reading, records}
 use Rattle.mesh.specs.Records.{written}
 use Rattle.mesh.specs.Rules.{Rules}
-use Rattle.mesh.specs.Shape.{side, sides, edges, firsts, starting}
+use Rattle.mesh.specs.Shape.{side, edges, firsts, starting}
 use Rattle.mesh.proofs.ReadsWritings.{reads_writings}
 use Rattle.base.specs.Faces.{parts}
 

@@ -1,7 +1,6 @@
 -- A test on some element of a list, by what stands at each place. Assumes nothing.
-use Rattle.std.proofs.Common.{◌≡◌, ℕ, ◌<◌, Bool, true, false, eqb, List, length, get_or, Decides, sym, refl, arith}
+use Rattle.std.proofs.Common.{◌≡◌, ℕ, ◌<◌, Bool, true, false, eqb, List, length, get_or, sym, arith}
 use Rattle.std.proofs.ByRecursion.{All-from_get_or}
-use Rattle.std.proofs.lemmas.Bool.{eq-eqb, ne_eqb, false≢true}
 use Rattle.std.specs.List.{IsAnyAnswer}
 use Rattle.mesh.proofs.Lists.{any_here, any_none}
 use Rattle.mesh.specs.Shape.{any, occurs}

@@ -3,11 +3,10 @@ use Rattle.std.specs.Prelude.{◌≡◌, ℕ, Bool, false, List, length, Some, N
 use Rattle.refusal.specs.declared.Fault.{Fault}
 use Rattle.refusal.specs.declared.Fault.TheVariants.{Refused, Memory}
 use Rattle.refusal.specs.declared.Refusal.{Refusal}
-use Rattle.mesh.specs.declared.Side.{Side}
 use Rattle.mesh.specs.Reading as reading
 use Rattle.mesh.specs.Reading.{judged, added, out_of_order, bad_vertex, third_face}
 use Rattle.mesh.specs.Records.{Record, face}
-use Rattle.mesh.specs.Shape.{sides, edges, edge_of}
+use Rattle.mesh.specs.Shape.{sides, edges}
 use Rattle.base.specs.Faces.{parts}
 use Rattle.base.specs.declared.draft.Draft.{Draft}
 

@@ -5,7 +5,6 @@ use Rattle.refusal.specs.declared.Refusal.{Refusal}
 use Rattle.refusal.specs.declared.Refusal.TheVariants.{Truncated, UnknownKind, OutOfOrder, BadVertex, BadCurve, ThirdFace, TooMany, TrailingByte, OpenEdge, BadValence, BadDimension, LevelCount, TooFine, TableTooShort, RefinedValence, CurveSize, NotUniform, WrongLength, NoSuchDepth, NoSuchPlace, ListFull, NoSurvivingMove, SpoiledSlot}
 use Rattle.history.specs.declared.answer.Answer.{Answer}
 use Rattle.history.specs.declared.answer.Answer.TheVariants.{Depth, Count, Value, Refused}
-use Rattle.history.specs.declared.call.Call.{Call}
 use Rattle.history.specs.declared.call.Request.{Request}
 use Rattle.history.specs.declared.call.Request.TheVariants.{Analyse, Synthesise, Move, TakeBack, Read}
 use Rattle.capi.specs.declared.crossing.Crossing as Crossing

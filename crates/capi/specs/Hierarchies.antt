@@ -1,5 +1,5 @@
 -- Which hierarchy the bytes of a base, or the description of a curve, give.
-use Rattle.std.specs.Prelude.{ℕ, Bool, List, Ok, Err, Result}
+use Rattle.std.specs.Prelude.{ℕ, Bool, List, Ok, Result}
 use Rattle.refusal.specs.declared.Refusal.{Refusal}
 use Rattle.hierarchy.specs.Meaning.{Meaning}
 use Rattle.mesh.specs.Reading.{reading, unless, then}

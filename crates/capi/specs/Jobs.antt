@@ -13,7 +13,7 @@ use Rattle.capi.specs.declared.stop.Stop.{Stop}
 use Rattle.capi.specs.declared.stop.Stop.TheVariants.{Refused, Memory, UnknownScheme, UnknownCall}
 use Rattle.capi.specs.Outcomes.{told}
 use Rattle.capi.specs.Records.{call_of, unknown_call, answer_record, slot_of, slot_record}
-use Rattle.capi.specs.Schemes.{Law, scheme_of}
+use Rattle.capi.specs.Schemes.{Law}
 use Rattle.capi.specs.Stops.{settled}
 
 -- the memory handed in: points, move list, and room for answers

@@ -1,7 +1,6 @@
 -- What the records that cross to C mean.
 use Rattle.std.specs.Prelude.{◌≡◌, ℕ, Bool, true, cond, not, ◌&&◌, List, length, Option, ◌==◌, nat_le, slice_index_or}
 use Rattle.refusal.specs.Table.{row}
-use Rattle.refusal.specs.declared.Refusal.{Refusal}
 use Rattle.kinds.specs.MarkSums.{unmarked}
 use Rattle.kinds.specs.PointSums.{origin}
 use Rattle.mesh.specs.Lowest.{lowest}

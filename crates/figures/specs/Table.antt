@@ -1,5 +1,5 @@
 -- The worked figures, all of them in one table, and the one statement over it.
-use Rattle.std.specs.Prelude.{ℕ, ◌+◌, ◌*◌, ◌%◌, Bool, true, false, List, [], ◌∷◌, ◌++◌, map, replicate, ℤ, pos, neg_ℤ, Ok, Err, nat_eq}
+use Rattle.std.specs.Prelude.{ℕ, ◌+◌, ◌*◌, ◌%◌, true, false, List, [], ◌∷◌, ◌++◌, map, replicate, ℤ, pos, neg_ℤ, Ok, Err, nat_eq}
 use Rattle.std.proofs.Common.{lit<}
 use Rattle.std.specs.List.{range_with_len, AllByRecursion as All}
 use Rattle.refusal.specs.declared.Refusal.TheVariants.{BadValence, LevelCount, ListFull}

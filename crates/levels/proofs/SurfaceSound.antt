@@ -7,7 +7,7 @@ use Rattle.std.proofs.lemmas.Bool.Decides.{Decides-ltb}
 use Rattle.std.specs.List.{AllByRecursion as All}
 use Rattle.mesh.specs.declared.Side.{Side}
 use Rattle.mesh.specs.Shape.{Shape, any, side, nowhere, joins, sides, edges, edge_of, uses, corners}
-use Rattle.mesh.specs.Rules.{Polygon, Rules, all_below, distinct, proper}
+use Rattle.mesh.specs.Rules.{Polygon, Rules, all_below, distinct}
 use Rattle.mesh.proofs.Lists.{countBy_yes}
 use Rattle.mesh.proofs.Occurs.{distinct_parts}
 use Rattle.mesh.proofs.Edges.{number, number_first, firsts_known, firsts_apart, count_number}

@@ -1,5 +1,5 @@
 -- Refinement: one level of subdivision more.
-use Rattle.std.specs.Prelude.{ℕ, zero, suc, ◌+◌, ◌-◌, ◌*◌, ◌/◌, ◌%◌, Bool, false, cond, ◌==◌, nat_lt}
+use Rattle.std.specs.Prelude.{ℕ, zero, suc, ◌+◌, ◌-◌, ◌*◌, ◌/◌, ◌%◌, false, cond, ◌==◌, nat_lt}
 use Rattle.levels.specs.Level.{Level}
 
 -- the vertex that an edge gets, and the one that a face gets: vertices keep their numbers, edges come next, then faces

@@ -1,5 +1,5 @@
 -- What every level keeps.
-use Rattle.std.specs.Prelude.{◌≡◌, ℕ, ◌<◌, ◌≤◌, Bool, ◌&&◌, ◌≢◌, ◌⊎◌, count_by, nat_eq}
+use Rattle.std.specs.Prelude.{◌≡◌, ℕ, ◌<◌, ◌≤◌, Bool, ◌≢◌, ◌⊎◌, count_by, nat_eq}
 use Rattle.std.specs.List.{range_with_len}
 use Rattle.levels.specs.Level.{Level}
 use Rattle.levels.specs.Incidence.{touches}

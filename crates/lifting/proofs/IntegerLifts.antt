@@ -1,5 +1,5 @@
 -- Each half step over points is the integer lifting operation on its class.
-use Rattle.std.proofs.Common.{◌≡◌, ℕ, ◌+◌, ◌-◌, ◌^◌, ◌<◌, true, false, List, length, get_or, ℤ, pos, ◌+ℤ◌, ◌-ℤ◌, neg_ℤ, sym, refl, ap, ◌∙◌, subst, arith}
+use Rattle.std.proofs.Common.{◌≡◌, ℕ, ◌+◌, ◌-◌, ◌^◌, ◌<◌, true, List, length, get_or, ℤ, pos, ◌+ℤ◌, ◌-ℤ◌, neg_ℤ, sym, ap, ◌∙◌, subst, arith}
 use lib.Signed.{mag}
 use Rattle.std.proofs.lemmas.Int.{ints}
 use Rattle.std.proofs.lemmas.Bool.{cond-true}
@@ -9,10 +9,10 @@ use Rattle.hierarchy.specs.Lawful.{Lawful}
 use Rattle.kinds.specs.PointSums.{added, origin, opposed, same_point}
 use Rattle.kinds.specs.Residues.{residue, residue_is}
 use Rattle.kinds.specs.declared.point.Point.{Point}
-use Rattle.schemes.specs.Equations.{s_lift, w_lift, lift, means}
+use Rattle.schemes.specs.Equations.{s_lift, lift, means}
 use Rattle.schemes.specs.Fractions.{Fraction, whole}
 use Rattle.schemes.specs.PointAmounts.{each_rounded, point_amount}
-use Rattle.schemes.specs.Readings.{Reads, parts}
+use Rattle.schemes.specs.Readings.{parts}
 use Rattle.schemes.specs.Rounding.{rounded}
 use Rattle.schemes.specs.declared.steps.Class.{Class}
 use Rattle.schemes.specs.declared.steps.Class.TheVariants.{Vertex, Edge, Face}
@@ -22,7 +22,7 @@ use Rattle.schemes.proofs.Roundings.{rounded_rounds, rounds_alone, rounded_whole
 use Rattle.lifting.specs.declared.way.Way.{Way}
 use Rattle.lifting.specs.declared.way.Way.TheVariants.{Down, Up}
 use Rattle.lifting.specs.Places.{first_place, count_of, has_place, dimension_of}
-use Rattle.lifting.specs.Reading.{s_lift_reads, w_lift_reads, read_by, values_read}
+use Rattle.lifting.specs.Reading.{s_lift_reads, read_by, values_read}
 use Rattle.lifting.specs.HalfSteps.{on_the_way, amount_at, half, analysed, synthesised}
 use Rattle.lifting.specs.IntegerLifting.{Axis, X, Y, Z, along, standing, Moved, Only, SLiftOfVertices, SLiftOfEdges, WLiftOfFaces, WLiftOfEdges, Analysis, Synthesis, spline, LiftingEquations}
 use Rattle.lifting.proofs.Changing.{length_half, half_at, half_is, partly_outside}

@@ -4,9 +4,8 @@ use Rattle.std.specs.List.{range_with_len}
 use Rattle.std.specs.Option.{unwrap_or}
 use Rattle.refusal.specs.declared.Refusal.{Refusal}
 use Rattle.refusal.specs.declared.Refusal.TheVariants.{Truncated, OutOfOrder, BadVertex, BadCurve, ThirdFace, TooMany, TrailingByte, OpenEdge, BadValence, BadDimension}
-use Rattle.mesh.specs.declared.Side.{Side}
 use Rattle.mesh.specs.Lowest.{lowest}
-use Rattle.mesh.specs.Shape.{Shape, any, nowhere, around, sides, edges, edge_of, uses, degree, occurs, corners, curve_edges}
+use Rattle.mesh.specs.Shape.{Shape, any, nowhere, around, edges, edge_of, uses, degree, occurs, corners, curve_edges}
 use Rattle.mesh.specs.Rules.{proper, fits}
 use Rattle.mesh.specs.Records.{Record, vertex, face, curve, end, next}
 

@@ -1,5 +1,5 @@
 -- The values of the lifting equations as fractions of whole numbers.
-use Rattle.std.proofs.Common.{◌≡◌, ℕ, zero, suc, ◌+◌, ◌*◌, ◌<◌, ℤ, pos, ◌+ℤ◌, ◌*ℤ◌, sym, refl, ap, ◌∙◌, arith, lit<}
+use Rattle.std.proofs.Common.{◌≡◌, ℕ, ◌*◌, ◌<◌, ℤ, pos, ◌+ℤ◌, ◌*ℤ◌, sym, refl, ap, ◌∙◌, arith, lit<}
 use Rattle.schemes.specs.Equations.{by_one, by_two}
 use Rattle.schemes.specs.Fractions.{Fraction, Same, Worth, quotient, whole, ◌⊕◌, ◌⊗◌, both_positive}
 use Rattle.schemes.proofs.Products.{gap_of, gap_pos, gap_times, gap_same, plus_times, times_plus, times_associates}

@@ -1,7 +1,6 @@
 -- Sums and products of whole numbers: what `omega` does not multiply out, and what a positive factor keeps.
-use Rattle.std.proofs.Common.{◌≡◌, ℕ, zero, suc, ◌+◌, ◌*◌, ◌<◌, ◌≤◌, ℤ, pos, negsuc, ◌+ℤ◌, ◌-ℤ◌, ◌*ℤ◌, nat_abs, ◌≤ℤ◌, ◌<ℤ◌, sym, refl, ap, ◌∙◌, arith}
-use lib.IntN.{sub_ℕ}
-use borrow.Author.Differences.{up, down, same_in}
+use Rattle.std.proofs.Common.{◌≡◌, ℕ, ◌+◌, ◌*◌, ◌<◌, ◌≤◌, ℤ, pos, ◌+ℤ◌, ◌-ℤ◌, ◌*ℤ◌, nat_abs, ◌≤ℤ◌, ◌<ℤ◌, ap, ◌∙◌, arith}
+use borrow.Author.Differences.{up, down}
 use Rattle.std.proofs.lemmas.Int.{ints, by_lt_z}
 
 -- u − d, as a number that does not compute

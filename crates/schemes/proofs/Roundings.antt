@@ -1,11 +1,11 @@
 -- The laws of rounding. Whatever uses it uses these alone.
-use Rattle.std.proofs.Common.{◌≡◌, ℕ, zero, suc, ◌+◌, ◌*◌, ◌/◌, ◌%◌, ◌<◌, ◌≤◌, ℤ, pos, negsuc, ◌+ℤ◌, ◌-ℤ◌, ◌*ℤ◌, ◌≤ℤ◌, ◌<ℤ◌, sym, refl, ap, ◌∙◌, mod-lt, arith}
+use Rattle.std.proofs.Common.{◌≡◌, ℕ, ◌*◌, ◌<◌, ℤ, pos, negsuc, ◌+ℤ◌, ◌*ℤ◌, ◌≤ℤ◌, ◌<ℤ◌, sym, ap, ◌∙◌, arith}
 use Rattle.std.proofs.lemmas.Nat.{mod_below, div-add-mod'}
 use Rattle.std.proofs.lemmas.Int.{ints}
 use Rattle.std.specs.Int.{int_div_euclid}
-use Rattle.schemes.specs.Fractions.{Fraction, Same, AtMost, Below, whole, half, ◌⊕◌, ◌⊗◌}
+use Rattle.schemes.specs.Fractions.{Fraction, Same, whole, ◌⊕◌}
 use Rattle.schemes.specs.Rounding.{Rounds, Near, rounded, RoundingLaws}
-use Rattle.schemes.proofs.Products.{gap_of, gap_pos, gap_times, gap_plus, gap_same, at_most_times, below_times, at_most_over, below_over, same_over, plus_times, at_most_at, below_at}
+use Rattle.schemes.proofs.Products.{gap_of, gap_pos, gap_times, gap_plus, gap_same, at_most_times, below_times, at_most_over, below_over, plus_times, at_most_at, below_at}
 
 -- d goes so many times into n, and not once more
 goes : (n : ℤ) (d : ℕ) → 0 < d → ((int_div_euclid n (pos d) *ℤ pos d) ≤ℤ n) × (n <ℤ (int_div_euclid n (pos d) *ℤ pos d +ℤ pos d))

@@ -1,5 +1,5 @@
 -- A step with factor 0 adds nothing.
-use Rattle.std.proofs.Common.{◌≡◌, ℕ, ◌≤◌, Bool, true, false, cond, eqb, ℤ, pos, ◌+ℤ◌, ◌*ℤ◌, nat_abs, sym, refl, ap, ◌∙◌, ⊎_elim, arith, w64, of_z}
+use Rattle.std.proofs.Common.{◌≡◌, ℕ, ◌≤◌, eqb, ℤ, pos, ◌*ℤ◌, nat_abs, sym, ap, ◌∙◌, ⊎_elim, arith, w64, of_z}
 use lib.IntN.{zero-*ℤ}
 use Rattle.std.proofs.lemmas.Int.{ints}
 use Rattle.std.proofs.lemmas.Bool.{cond_both, cases_eq, eq-eqb, ne_eqb}

@@ -1,6 +1,6 @@
 -- Fractions by their value: sums and products keep it.
-use Rattle.std.proofs.Common.{◌≡◌, ℕ, zero, suc, ◌+◌, ◌*◌, ◌<◌, ◌≤◌, ℤ, pos, ◌+ℤ◌, ◌*ℤ◌, ◌≤ℤ◌, ◌<ℤ◌, sym, refl, ap, ◌∙◌, arith}
-use Rattle.schemes.specs.Fractions.{Fraction, Same, AtMost, Below, ◌⊕◌, ◌⊗◌}
+use Rattle.std.proofs.Common.{◌≡◌, ℕ, ◌*◌, ℤ, pos, ◌+ℤ◌, ◌*ℤ◌, sym, ap, ◌∙◌, arith}
+use Rattle.schemes.specs.Fractions.{Fraction, Same, ◌⊕◌, ◌⊗◌}
 use Rattle.schemes.proofs.Products.{gap_of, gap_pos, gap_times, gap_plus, gap_same, same_over}
 
 pub same_turned : (p q : Fraction) → Same p q → Same q p

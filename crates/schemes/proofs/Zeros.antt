@@ -1,5 +1,5 @@
 -- Where an equation gives 0, the point is the origin.
-use Rattle.std.proofs.Common.{◌≡◌, ℕ, ℤ, pos, sym, refl, ap, ◌∙◌}
+use Rattle.std.proofs.Common.{◌≡◌, ℕ, ℤ, pos, sym, refl}
 use Rattle.kinds.specs.PointSums.{modulo, origin, same_point}
 use Rattle.kinds.specs.Residues.{residue}
 use Rattle.std.proofs.lemmas.Bool.{ne_eqb}

@@ -1,6 +1,6 @@
 -- Rounding, in this one place: [q] is the whole number r with r ≤ q + 1/2 < r + 1.
 -- What uses it uses the laws alone: [q] lies within one half of q, and depends on the value of q and not on how q is written.
-use Rattle.std.specs.Prelude.{◌≡◌, ℕ, ◌*◌, ℤ, pos, ◌+ℤ◌, ◌*ℤ◌}
+use Rattle.std.specs.Prelude.{◌≡◌, ◌*◌, ℤ, pos, ◌+ℤ◌, ◌*ℤ◌}
 use Rattle.std.specs.Int.{int_div_euclid}
 use Rattle.schemes.specs.Fractions.{Fraction, Same, AtMost, Below, whole, half, ◌⊕◌}
 

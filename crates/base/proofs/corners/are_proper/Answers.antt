@@ -1,4 +1,4 @@
-use Rattle.std.proofs.Common.{◌-◌, length, get_or, take, drop, sym, ap, ◌∙◌, arith, rules}
+use Rattle.std.proofs.Common.{◌-◌, length, get_or, take, drop, sym, ◌∙◌, arith, rules}
 use Rattle.std.proofs.lemmas.Bool.{lt-ltb, le-ltb}
 use Rattle.base.proofs.Steps.{proper_front, proper_none, proper_more, proper_unknown, proper_twice}
 use Rattle.base.proofs.Tests.{occurs_from_contains}

@@ -1,4 +1,4 @@
-use Rattle.std.proofs.Common.{◌≡◌, ◌≤◌, length, get_or, sym, ◌∙◌, rules}
+use Rattle.std.proofs.Common.{rules}
 use Rattle.std.proofs.lemmas.List.{take_rest}
 use Rattle.base.proofs.Heads.{end_front, vertex_front, curve_front, face_front}
 use Rattle.base.proofs.record.next_record.Goals as goal

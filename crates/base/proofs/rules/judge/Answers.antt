@@ -1,11 +1,11 @@
-use Rattle.std.proofs.Common.{◌≡◌, ℕ, Bool, false, not, ◌&&◌, ◌||◌, eqb, ltb, List, map, length, get_or, vec_items, count_by, sym, ap, ◌∙◌, ap₂}
+use Rattle.std.proofs.Common.{◌≡◌, ℕ, false, not, ◌&&◌, ◌||◌, eqb, ltb, List, map, length, get_or, vec_items, count_by, sym, ap, ◌∙◌, ap₂}
 use Rattle.std.specs.List.{range_with_len}
 use Rattle.std.proofs.lemmas.List.FromFn.{length-map-range_with_len}
 use Rattle.mesh.specs.declared.Side.{Side}
 use Rattle.mesh.specs.Lowest.{lowest}
 use Rattle.mesh.specs.Reading.{finished, open_edge, bad_valence, bad_dimension}
 use Rattle.mesh.specs.Rules.{fits}
-use Rattle.mesh.specs.Shape.{Shape, any, joins, nowhere, edges, sides, degree, marked, occurs, curve_edges}
+use Rattle.mesh.specs.Shape.{Shape, any, joins, nowhere, edges, degree, marked, occurs}
 use Rattle.base.specs.declared.draft.Draft.{Draft}
 use Rattle.base.specs.Drafts.{drafted, Tied}
 use Rattle.base.proofs.Judging.{checked_edges, checked_valences, checked_dimensions, checked_all, valence_test}

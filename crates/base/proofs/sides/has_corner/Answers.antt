@@ -1,4 +1,4 @@
-use Rattle.std.proofs.Common.{eqb, sym, ap, ◌∙◌, arith, below_more}
+use Rattle.std.proofs.Common.{eqb, sym, ◌∙◌, arith, below_more}
 use Rattle.std.proofs.lemmas.Bool.{eq-eqb, ne_eqb}
 use Rattle.mesh.specs.Shape.{nowhere}
 use Rattle.mesh.proofs.Lists.{any_here}

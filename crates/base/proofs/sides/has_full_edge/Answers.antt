@@ -1,4 +1,4 @@
-use Rattle.std.proofs.Common.{leb, count_by, sym, ap, ◌∙◌, arith, below_more}
+use Rattle.std.proofs.Common.{leb, count_by, sym, arith, below_more}
 use Rattle.std.proofs.lemmas.Bool.{le-leb, lt-leb}
 use Rattle.mesh.specs.Shape.{joins, nowhere}
 use Rattle.mesh.proofs.Lists.{any_here}

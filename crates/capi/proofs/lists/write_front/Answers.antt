@@ -1,4 +1,4 @@
-use Rattle.std.proofs.Common.{◌≡◌, ◌<◌, length, ap, ◌∙◌, arith}
+use Rattle.std.proofs.Common.{◌<◌, length, arith}
 use Rattle.capi.proofs.Fronts.{front_more}
 use Rattle.capi.proofs.lists.write_front.Goals as goal
 

@@ -1,4 +1,4 @@
-use Rattle.std.proofs.Common.{◌≡◌, ◌<◌, eqb, sym, ◌∙◌, arith}
+use Rattle.std.proofs.Common.{◌<◌, eqb, sym, ◌∙◌, arith}
 use Rattle.std.proofs.lemmas.Bool.{eq-eqb, ne_eqb}
 use Rattle.hierarchy.proofs.Every.{every_more, every_fails}
 use Rattle.hierarchy.proofs.uniform.all_have.Goals as goal

@@ -1,4 +1,4 @@
-use Rattle.std.proofs.Common.{◌≡◌, ◌<◌, sym, ◌∙◌, arith}
+use Rattle.std.proofs.Common.{◌<◌, sym, ◌∙◌, arith}
 use Rattle.hierarchy.specs.Uniform.{uniform_level}
 use Rattle.hierarchy.proofs.Every.{every_more, every_fails}
 use Rattle.hierarchy.proofs.uniform.is_uniform.Goals as goal

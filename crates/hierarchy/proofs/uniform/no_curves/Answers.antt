@@ -1,4 +1,4 @@
-use Rattle.std.proofs.Common.{◌≡◌, ◌<◌, not, sym, ap, ◌∙◌, subst, arith}
+use Rattle.std.proofs.Common.{◌<◌, not, sym, ap, ◌∙◌, arith}
 use Rattle.hierarchy.proofs.Every.{every_more, every_fails}
 use Rattle.hierarchy.proofs.uniform.no_curves.Goals as goal
 

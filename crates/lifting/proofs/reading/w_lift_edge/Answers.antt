@@ -1,4 +1,4 @@
-use Rattle.std.proofs.Common.{◌≡◌, ap, ◌∙◌}
+use Rattle.std.proofs.Common.{ap, ◌∙◌}
 use Rattle.schemes.specs.declared.steps.Class.TheVariants.{Edge}
 use Rattle.schemes.specs.declared.steps.Step.TheVariants.{Second}
 use Rattle.lifting.specs.Reading.{w_lift_reads, values_read}

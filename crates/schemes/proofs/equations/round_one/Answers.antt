@@ -1,5 +1,4 @@
-use Rattle.std.proofs.Common.{◌≡◌, ℕ, ◌*◌, ◌^◌, ◌<◌, ◌≤◌, ℤ, pos, ◌*ℤ◌, nat_abs, sym, ap, ◌∙◌, arith, lit<}
-use Rattle.std.proofs.lemmas.Int.{ints}
+use Rattle.std.proofs.Common.{◌^◌, ◌≤◌, ◌*ℤ◌, nat_abs, ◌∙◌, arith, lit<}
 use Rattle.schemes.specs.Equations.{by_one}
 use Rattle.schemes.proofs.Lifts.{one_worth}
 use Rattle.schemes.proofs.Sizes.{product_fits, product_is, times_size, stored_is}

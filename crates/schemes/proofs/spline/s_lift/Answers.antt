@@ -1,4 +1,4 @@
-use Rattle.std.proofs.Common.{◌≡◌, ◌∙◌, arith, rules}
+use Rattle.std.proofs.Common.{◌≡◌, ◌∙◌, rules}
 use Rattle.schemes.proofs.Zeros.{s_lift_leaves_vertices, s_lift_leaves_edges, s_lift_leaves_faces}
 use Rattle.schemes.proofs.spline.s_lift.Goals as goal
 

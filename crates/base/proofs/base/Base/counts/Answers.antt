@@ -1,4 +1,4 @@
-use Rattle.std.proofs.Common.{◌≡◌, length, vec_items, sym, ap, ◌∙◌}
+use Rattle.std.proofs.Common.{length, vec_items, sym, ap, ◌∙◌}
 use Rattle.base.proofs.Tables.{length_parts}
 use Rattle.base.proofs.base.Base.counts.Goals as goal
 

@@ -1,4 +1,3 @@
-use Rattle.std.proofs.Common.{◌≡◌, refl}
 use Rattle.base.proofs.Starting.{round_edges, starting_rules}
 use Rattle.base.proofs.base.Base.start.Goals as goal
 

@@ -1,4 +1,4 @@
-use Rattle.std.proofs.Common.{◌≡◌, sym, ap, ◌∙◌}
+use Rattle.std.proofs.Common.{sym, ap, ◌∙◌}
 use Rattle.capi.specs.Records.{answer_record}
 use Rattle.capi.specs.declared.records.AnswerRecord.{AnswerRecord}
 use Rattle.capi.specs.declared.records.PointAndMarks.{PointAndMarks}

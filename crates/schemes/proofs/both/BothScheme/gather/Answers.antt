@@ -1,4 +1,3 @@
-use Rattle.std.proofs.Common.{sym}
 use Rattle.schemes.specs.PairAmounts.{firsts, seconds}
 use Rattle.schemes.proofs.Joined.{parts_more}
 use Rattle.schemes.proofs.both.BothScheme.gather.Goals as goal

@@ -1,4 +1,3 @@
-use Rattle.std.proofs.Common.{ℤ}
 use Rattle.schemes.specs.Equations.{cubic}
 use Rattle.schemes.specs.Fractions.{Worth}
 use Rattle.schemes.proofs.Sizes.{held}

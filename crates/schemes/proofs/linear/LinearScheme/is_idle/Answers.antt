@@ -1,4 +1,3 @@
-use Rattle.std.proofs.Common.{ℤ}
 use Rattle.schemes.specs.Equations.{linear}
 use Rattle.schemes.specs.Fractions.{Worth}
 use Rattle.schemes.proofs.Sizes.{held}

@@ -1,4 +1,4 @@
-use Rattle.std.proofs.Common.{◌≡◌, sym, refl, ap, ◌∙◌}
+use Rattle.std.proofs.Common.{◌≡◌, refl, ap, ◌∙◌}
 use Rattle.kinds.specs.MarkSums.{unmarked, flag}
 use Rattle.kinds.specs.declared.marks.Marks.{Marks}
 use Rattle.schemes.specs.declared.steps.Step.{Step}
