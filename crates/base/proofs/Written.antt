@@ -1,6 +1,6 @@
 -- The tables of a base as records. Assumes nothing.
 use Rattle.std.proofs.Common.{◌≡◌, ℕ, ◌+◌, ◌<◌, ◌≤◌, List, [], ◌∷◌, ◌++◌, map, length, get_or, take, drop, sum, sym, ap, ◌∙◌, arith}
-use Rattle.std.specs.List.{flat_map, AllByRecursion as All}
+use Rattle.std.specs.List.{flat_map, AllByRecursion}
 use Rattle.std.proofs.lemmas.List.{append_assoc, at_drop_more, length-drop, length-map, length-take-le}
 use Rattle.std.proofs.lemmas.List.Sums.{sum_by-cons}
 use Rattle.mesh.specs.declared.Side.{Side}
@@ -18,7 +18,7 @@ face_front ks i ss front back l inside f b =
     at_drop_more (λ js. flat_map (λ f. bytes_of (face f)) (parts js ss)) ks i 0 l
     ∙ (λ j. (length_part k ss inside j ∷ flat_map two_bytes (map (λ (s : Side). s.tail) (sym f j))) ++ flat_map (λ f. bytes_of (face f)) (parts (drop (i + 1) ks) (sym b j)))
 
-pub sizes_short : (n : ℕ) (ks : List ℕ) (ss : List Side) → sum ks ≡ length ss → All (Polygon n) (parts ks ss) → All (λ k. k ≤ 8) ks
+pub sizes_short : (n : ℕ) (ks : List ℕ) (ss : List Side) → sum ks ≡ length ss → AllByRecursion (Polygon n) (parts ks ss) → AllByRecursion (λ k. k ≤ 8) ks
 sizes_short n [] ss e all = tt
 sizes_short n (k ∷ ks) ss e all =
     let total = sum_by-cons (λ (x : ℕ). x) k ks in

@@ -1,6 +1,6 @@
 // A base written as its records.
 ghost use Rattle.std.specs.Prelude.{◌≡◌, ◌≤◌, ◌++◌, map, length, IfOk, Ok, sum, OnOk};
-ghost use Rattle.std.specs.List.{flat_map, AllByRecursion as All};
+ghost use Rattle.std.specs.List.{flat_map, AllByRecursion};
 ghost use Rattle.mesh.specs.Reading.{reading};
 ghost use Rattle.mesh.specs.Records.{bytes_of, vertex, face, curve, two_bytes, written};
 ghost use Rattle.base.specs.Bases.{shape};
@@ -52,7 +52,7 @@ fn write_curves(out: &mut Vec<u8>, edges: &[Side]) -> Result<(), AllocError>
 
 fn write_faces(out: &mut Vec<u8>, sizes: &[usize], sides: &[Side]) -> Result<(), AllocError>
     requires total { sum sizes.now ≡ length sides.now }
-    requires short { All (λ k. k ≤ 8) sizes.now }
+    requires short { AllByRecursion (λ k. k ≤ 8) sizes.now }
     ensures { OnOk result (out.new.items ≡ out.old.items ++ flat_map (λ f. bytes_of (face f)) (parts sizes.now sides.now)) }
 {
     let mut rest = sides;

@@ -1,7 +1,7 @@
 -- The worked figures, all of them in one table, and the one statement over it.
 use Rattle.std.specs.Prelude.{ℕ, ◌+◌, ◌*◌, ◌%◌, true, false, List, [], ◌∷◌, ◌++◌, map, replicate, ℤ, pos, neg_ℤ, Ok, Err, nat_eq}
 use Rattle.std.proofs.Common.{lit<}
-use Rattle.std.specs.List.{range_with_len, AllByRecursion as All}
+use Rattle.std.specs.List.{range_with_len, AllByRecursion}
 use Rattle.refusal.specs.declared.Refusal.TheVariants.{BadValence, LevelCount, ListFull}
 use Rattle.mesh.specs.Shape.{Shape}
 use Rattle.hierarchy.specs.Meaning.{Meaning}
@@ -119,4 +119,4 @@ table =
     ∷ []
 
 unfoldable pub EveryRowHolds : Type 0
-EveryRowHolds = All Holds table
+EveryRowHolds = AllByRecursion Holds table

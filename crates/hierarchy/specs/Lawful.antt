@@ -1,6 +1,6 @@
 -- What makes a meaning that of a hierarchy.
 use Rattle.std.specs.Prelude.{◌≡◌, ℕ, ◌+◌, ◌<◌, ◌≤◌, false, List, [], ◌∷◌, length}
-use Rattle.std.specs.List.{AllByRecursion as All}
+use Rattle.std.specs.List.{AllByRecursion}
 use Rattle.hierarchy.specs.declared.link.Link.{Link}
 use Rattle.hierarchy.specs.Meaning.{Meaning, sources, targets}
 
@@ -20,7 +20,7 @@ pub record Lawful (m : Meaning) : Type 0 where
   -- lists ascend without repeats, have at most 8 members, and each member is below its count
   pub rising : (j : ℕ) (l : Link) (i : ℕ) → Rises (m.list j l i)
   pub short : (j : ℕ) (l : Link) (i : ℕ) → length (m.list j l i) ≤ 8
-  pub below : (j : ℕ) (l : Link) (i : ℕ) → All (λ k. k < targets m j l) (m.list j l i)
+  pub below : (j : ℕ) (l : Link) (i : ℕ) → AllByRecursion (λ k. k < targets m j l) (m.list j l i)
   pub dimensions : (j v : ℕ) → m.dimension j v ≤ 2
   -- past the finest level there are no counts; at it and past it, and past a count, there is nothing
   pub no_counts : (j : ℕ) → m.levels < j → (m.vertices j ≡ 0) × (m.edges j ≡ 0) × (m.faces j ≡ 0)

@@ -1,6 +1,6 @@
 -- What a call does to a form and to the memory lent to it, whatever they hold, and when they stand for a history.
 use Rattle.std.specs.Prelude.{◌≡◌, ℕ, ◌+◌, ◌-◌, ◌<◌, ◌≤◌, Bool, ◌&&◌, List, length, take, Ok, Err, nat_le, nat_lt, slice_index_or}
-use Rattle.std.specs.List.{AllByRecursion as All}
+use Rattle.std.specs.List.{AllByRecursion}
 use Rattle.hierarchy.specs.Meaning.{Meaning}
 use Rattle.lifting.specs.HalfSteps.{Rule}
 use Rattle.lifting.specs.Travel.{travelled}
@@ -92,7 +92,7 @@ memory_answer m r mem request =
 pub record Sound {V : Type 0} (m : Meaning) (h : History V) : Type 0 where
   pub whole : length h.opening.values ≡ finest m
   pub depth : h.depth ≤ m.levels
-  pub moves : All (λ s. (s.place < finest m) × (s.depth ≤ m.levels)) h.moves
+  pub moves : AllByRecursion (λ s. (s.place < finest m) × (s.depth ≤ m.levels)) h.moves
   pub few : length h.moves ≤ h.opening.slots
 
 -- form, points and move list stand for the history: the points are its values, and the first slots are its surviving moves

@@ -2,11 +2,11 @@
 use Rattle.std.proofs.Common.{◌≡◌, ℕ, ◌<◌, Bool, true, false, cond, eqb, List, [], ◌∷◌, ◌++◌, length, sym, refl, ap, ◌∙◌, subst, append_assoc, append-nil, arith}
 use Rattle.std.proofs.ByRecursion.{All-push}
 use Rattle.std.proofs.lemmas.Bool.{ne_eqb, eqb-true, eqb-false}
-use Rattle.std.specs.List.{AllByRecursion as All}
+use Rattle.std.specs.List.{AllByRecursion}
 use Rattle.job.specs.Words.{space, unless_empty, words_from, words, Word, Cut}
 
 abbrev pub Solid : List ℕ → Type 0
-Solid w = All (λ b. b ≡ space → ⊥) w
+Solid w = AllByRecursion (λ b. b ≡ space → ⊥) w
 
 pub words_nil : words [] ≡ []
 unfolding words

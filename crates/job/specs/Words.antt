@@ -1,6 +1,6 @@
 -- The words of a line: its longest runs of bytes that are no spaces. Assumes nothing.
 use Rattle.std.specs.Prelude.{◌≡◌, ℕ, ◌<◌, cond, List, [], ◌∷◌, ◌++◌, length, ◌==◌, ◌≢◌}
-use Rattle.std.specs.List.{AllByRecursion as All}
+use Rattle.std.specs.List.{AllByRecursion}
 
 abbrev pub space : ℕ
 space = 32
@@ -19,7 +19,7 @@ unfoldable pub words : List ℕ → List (List ℕ)
 words bs = words_from [] bs
 
 abbrev pub Spaces : List ℕ → Type 0
-Spaces bs = All (λ b. b ≡ space) bs
+Spaces bs = AllByRecursion (λ b. b ≡ space) bs
 
 -- bs ends, or goes on with a space
 abbrev pub Breaks : List ℕ → Type 0
@@ -29,7 +29,7 @@ Breaks (b ∷ bs) = b ≡ space
 -- a word is not empty and holds no space
 pub record Word (w : List ℕ) : Type 0 where
   pub some : 0 < length w
-  pub solid : All (λ b. b ≢ space) w
+  pub solid : AllByRecursion (λ b. b ≢ space) w
 
 -- bs is spaces, the word w, and then rest
 pub record First (bs w rest : List ℕ) : Type 0 where

@@ -2,7 +2,7 @@
 use Rattle.std.proofs.Common.{◌≡◌, ℕ, ◌+◌, ◌<◌, ◌≤◌, false, cond, ◌&&◌, ltb, leb, List, [], length, ap, ◌∙◌, ⊎_elim, add-one, arith}
 use Rattle.std.proofs.lemmas.Bool.{cases_lt, cond_both, cond-true, cond-false, and_parts, and_left, lt-ltb, le-ltb, ltb-true, le-leb, lt-leb}
 use Rattle.std.proofs.lemmas.Bool.Decides.{nat_tests}
-use Rattle.std.specs.List.{AllByRecursion as All}
+use Rattle.std.specs.List.{AllByRecursion}
 use Rattle.hierarchy.specs.declared.link.Link.{Link}
 use Rattle.hierarchy.specs.declared.link.Link.TheVariants.{EdgeEnds, EdgeFaces, FaceVertices, FaceEdges, VertexEdges, VertexFaces}
 use Rattle.hierarchy.specs.Lawful.{Rises, Lawful}
@@ -62,7 +62,7 @@ module _ (m : Level) (L : ℕ) where
       few_vertices = omega (arith, count_at (λ n. n.vertices) L (omega arith));
       rising = λ j l i. list_has Rises j l i (λ _. incident_rises (level m j) (each j) l i) tt;
       short = λ j l i. list_has (λ xs. length xs ≤ 8) j l i (λ _. incident_short (level m j) (each j) l i) (omega arith);
-      below = λ j l i. list_has (All (λ k. k < targets (hierarchy m L) j l)) j l i (λ h. let in' : j ≤ L = omega arith in rw (targets_of j in' l) (incident_below (level m j) (each j) l i)) tt;
+      below = λ j l i. list_has (AllByRecursion (λ k. k < targets (hierarchy m L) j l)) j l i (λ h. let in' : j ≤ L = omega arith in rw (targets_of j in' l) (incident_below (level m j) (each j) l i)) tt;
       dimensions = λ j v. cond_both (ltb j L && ltb v (level m j).vertices) ((level m j).dimension v) 0 (λ d. d ≤ 2) (λ t. (each j).dimensions v (ltb-true v (level m j).vertices (and_parts (ltb j L) (ltb v (level m j).vertices) t).1)) (λ _. omega arith);
       no_counts = λ j h. let out = lt-leb j L h in (cond-false (leb j L) (level m j).vertices 0 out, cond-false (leb j L) (level m j).edges 0 out, cond-false (leb j L) (level m j).faces 0 out);
       no_level = λ j h i. let out = le-ltb j L h in (λ l. list_past j h l i, cond-false (ltb j L && ltb i (level m j).edges) ((level m j).curve i) false (and_left (ltb j L) (ltb i (level m j).edges) out), cond-false (ltb j L && ltb i (level m j).vertices) ((level m j).dimension i) 0 (and_left (ltb j L) (ltb i (level m j).vertices) out));

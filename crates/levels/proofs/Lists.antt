@@ -1,7 +1,7 @@
 -- What a sound level's relations list: few numbers, ascending, below their count. Assumes nothing.
 use Rattle.std.proofs.Common.{◌≡◌, ℕ, ◌<◌, ◌≤◌, Bool, false, ◌&&◌, eqb, ltb, List, [], length, sym, refl, ◌∙◌, ⊎_elim, arith}
 use Rattle.std.proofs.lemmas.Bool.{cases_lt, cond-true, cond-false, lt-ltb, le-ltb, eqb-true}
-use Rattle.std.specs.List.{AllByRecursion as All}
+use Rattle.std.specs.List.{AllByRecursion}
 use Rattle.hierarchy.specs.declared.link.Link.{Link}
 use Rattle.hierarchy.specs.declared.link.Link.TheVariants.{EdgeEnds, EdgeFaces, FaceVertices, FaceEdges, VertexEdges, VertexFaces}
 use Rattle.hierarchy.specs.Lawful.{Rises}
@@ -86,5 +86,5 @@ module _ (m : Level) (sound : Sound m) where
   pub incident_short : (l : Link) (i : ℕ) → length (incident m l i) ≤ 8
   incident_short l i = incident_has (λ xs. length xs ≤ 8) l i (λ h. omega (arith, length_those (relates m l i) (targets_at m l), relates_few l i h)) (omega arith)
 
-  pub incident_below : (l : Link) (i : ℕ) → All (λ k. k < targets_at m l) (incident m l i)
-  incident_below l i = incident_has (All (λ k. k < targets_at m l)) l i (λ _. those_below (relates m l i) (targets_at m l)) tt
+  pub incident_below : (l : Link) (i : ℕ) → AllByRecursion (λ k. k < targets_at m l) (incident m l i)
+  incident_below l i = incident_has (AllByRecursion (λ k. k < targets_at m l)) l i (λ _. those_below (relates m l i) (targets_at m l)) tt

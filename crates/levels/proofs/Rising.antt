@@ -6,7 +6,7 @@ use Rattle.std.proofs.lemmas.List.{append-nil}
 use Rattle.std.proofs.lemmas.List.Sums.{length-filter}
 use Rattle.std.proofs.lemmas.Bool.{cases_eq, cond_both, or_cases, or_left, eq-eqb, eqb-true, true≢false, false≢true}
 use Rattle.std.proofs.lemmas.Bool.Decides.{nat_tests}
-use Rattle.std.specs.List.{range_with_len, AllByRecursion as All}
+use Rattle.std.specs.List.{range_with_len, AllByRecursion}
 use Rattle.hierarchy.specs.Lawful.{Rises}
 use Rattle.mesh.specs.Shape.{occurs}
 use Rattle.mesh.proofs.Lists.{any_append}
@@ -15,7 +15,7 @@ use Rattle.levels.specs.Sound.{count}
 use Rattle.levels.proofs.Counting.{counting_more}
 
 -- what holds of all of a list holds of what occurs in it
-pub occurs_all : (P : ℕ → Type 0) (xs : List ℕ) (i : ℕ) → All P xs → occurs i xs ≡ true → P i
+pub occurs_all : (P : ℕ → Type 0) (xs : List ℕ) (i : ℕ) → AllByRecursion P xs → occurs i xs ≡ true → P i
 occurs_all P [] i all t = absurd (false≢true t)
 occurs_all P (x ∷ xs) i all t = ⊎_elim (λ here. subst P (eqb-true x i here) all.0) (occurs_all P xs i all.1) (or_cases (eqb x i) (occurs i xs) t)
 
@@ -24,15 +24,15 @@ rises_tail x [] r = tt
 rises_tail x (y ∷ ys) r = r.1
 
 -- the first is the least
-pub rises_least : (x : ℕ) (xs : List ℕ) → Rises (x ∷ xs) → All (λ y. x < y) xs
+pub rises_least : (x : ℕ) (xs : List ℕ) → Rises (x ∷ xs) → AllByRecursion (λ y. x < y) xs
 rises_least x [] r = tt
 rises_least x (y ∷ ys) r = (r.0, All-weaker (λ z. y < z) (λ z. x < z) (λ z l. omega (arith, r.0)) ys (rises_least y ys r.1))
 
-pub rises_cons : (x : ℕ) (xs : List ℕ) → All (λ y. x < y) xs → Rises xs → Rises (x ∷ xs)
+pub rises_cons : (x : ℕ) (xs : List ℕ) → AllByRecursion (λ y. x < y) xs → Rises xs → Rises (x ∷ xs)
 rises_cons x [] all r = tt
 rises_cons x (y ∷ ys) all r = (all.0, r)
 
-pub rises_push : (xs : List ℕ) (x : ℕ) → Rises xs → All (λ y. y < x) xs → Rises (xs ++ x ∷ [])
+pub rises_push : (xs : List ℕ) (x : ℕ) → Rises xs → AllByRecursion (λ y. y < x) xs → Rises (xs ++ x ∷ [])
 rises_push [] x r all = tt
 rises_push (y ∷ []) x r all = (all.0, tt)
 rises_push (y ∷ z ∷ zs) x r all = (r.0, rises_push (z ∷ zs) x r.1 all.1)
@@ -65,11 +65,11 @@ rises_alike (x ∷ xs) (y ∷ ys) r s same =
 pub those_more : (p : ℕ → Bool) (n : ℕ) → those p (suc n) ≡ those p n ++ cond (p n) (n ∷ []) []
 those_more p n = ap (filter p) (counting_more 0 n n (omega arith)) ∙ filter-append p (range_with_len 0 n) (n ∷ [])
 
-pub those_below : (p : ℕ → Bool) (n : ℕ) → All (λ i. i < n) (those p n)
+pub those_below : (p : ℕ → Bool) (n : ℕ) → AllByRecursion (λ i. i < n) (those p n)
 those_below p zero = tt
-those_below p (suc n) = rw (those_more p n) (All-append (λ i. i < suc n) (those p n) (cond (p n) (n ∷ []) []) (All-weaker (λ i. i < n) (λ i. i < suc n) (λ i l. omega arith) (those p n) (those_below p n)) (cond_both (p n) (n ∷ []) [] (All (λ i. i < suc n)) (λ _. (omega arith, tt)) (λ _. tt)))
+those_below p (suc n) = rw (those_more p n) (All-append (λ i. i < suc n) (those p n) (cond (p n) (n ∷ []) []) (All-weaker (λ i. i < n) (λ i. i < suc n) (λ i l. omega arith) (those p n) (those_below p n)) (cond_both (p n) (n ∷ []) [] (AllByRecursion (λ i. i < suc n)) (λ _. (omega arith, tt)) (λ _. tt)))
 
-pub those_pass : (p : ℕ → Bool) (n : ℕ) → All (λ i. p i ≡ true) (those p n)
+pub those_pass : (p : ℕ → Bool) (n : ℕ) → AllByRecursion (λ i. p i ≡ true) (those p n)
 those_pass p n = kept_by_passes p (range_with_len 0 n)
 
 pub those_rise : (p : ℕ → Bool) (n : ℕ) → Rises (those p n)

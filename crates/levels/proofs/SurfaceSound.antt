@@ -4,7 +4,7 @@ use Rattle.std.proofs.ByRecursion.{All-get_or, All-append, Decides-by_and}
 use Rattle.std.proofs.lemmas.List.Sums.{sum_by-cons}
 use Rattle.std.proofs.lemmas.Bool.{and_parts, or_parts, or_cases, eqb-true, eqb-false, ne_eqb, ltb-true, false≢true}
 use Rattle.std.proofs.lemmas.Bool.Decides.{Decides-ltb}
-use Rattle.std.specs.List.{AllByRecursion as All}
+use Rattle.std.specs.List.{AllByRecursion}
 use Rattle.mesh.specs.declared.Side.{Side}
 use Rattle.mesh.specs.Shape.{Shape, any, side, nowhere, joins, sides, edges, edge_of, uses, corners}
 use Rattle.mesh.specs.Rules.{Polygon, Rules, all_below, distinct}
@@ -66,7 +66,7 @@ joins_runs t a b j = ⊎_elim (λ on. inl (both t.tail a t.head b on)) (λ turne
     both : (p q u v : ℕ) → (eqb p q && eqb u v) ≡ true → (p ≡ q) × (u ≡ v)
     both p q u v h = let parts = and_parts (eqb p q) (eqb u v) h in (eqb-true p q parts.0, eqb-true u v parts.1)
 
-corners_below : (n : ℕ) (fs : List (List ℕ)) → All (Polygon n) fs → All (λ v. v < n) (corners fs)
+corners_below : (n : ℕ) (fs : List (List ℕ)) → AllByRecursion (Polygon n) fs → AllByRecursion (λ v. v < n) (corners fs)
 corners_below n [] all = tt
 corners_below n (f ∷ fs) all = All-append (λ v. v < n) f (corners fs) ((Decides-by_and (λ v. ltb v n) (λ v. v < n) (all_below n) (λ v. Decides-ltb v n) refl (λ _ _. refl) f).0 (and_parts (all_below n f) (distinct f) all.0.proper).0) (corners_below n fs all.1)
 
@@ -83,7 +83,7 @@ any_counted p (x ∷ xs) t =
     (or_cases (p x) (any p xs) t)
 
 module _ (s : Shape) (rules : Rules s) where
-  known : All (λ t. is_some (edge_of (edges s.faces) t) ≡ true) (sides s.faces)
+  known : AllByRecursion (λ t. is_some (edge_of (edges s.faces) t) ≡ true) (sides s.faces)
   known = firsts_known (sides s.faces)
 
   first_at : (c : ℕ) → c < (surface s).corners → ((surface s).side c < (surface s).edges) × (joins (get_or (edges s.faces) ((surface s).side c) nowhere) (get_or (sides s.faces) c nowhere) ≡ true)

@@ -1,6 +1,6 @@
 -- What a half step leaves, place by place, also while it is under way.
 use Rattle.std.proofs.Common.{◌≡◌, ℕ, ◌+◌, ◌-◌, ◌<◌, ◌≤◌, true, cond, List, [], ◌∷◌, map, length, get_or, set, sym, refl, ap, ◌∙◌, inl, inr, ⊎_elim, arith, length-set}
-use Rattle.std.specs.List.{range_with_len, AllByRecursion as All}
+use Rattle.std.specs.List.{range_with_len, AllByRecursion}
 use Rattle.std.proofs.lemmas.List.FromFn.{length-map-range_with_len, get_or-map-range_with_len}
 use Rattle.std.proofs.lemmas.List.{get_or_past, get_or-set_same, get_or-set_other, ext_get_or}
 use Rattle.std.proofs.ByRecursion.{All-weaker}
@@ -18,7 +18,7 @@ use Rattle.lifting.specs.Reading.{read_by, values_of, values_read}
 use Rattle.lifting.specs.HalfSteps.{Rule, on_the_way, amount_at, changed_at, half, halves}
 use Rattle.lifting.proofs.Outside.{Outside, outside_run, Foreign, Apart, apart}
 
-same_map : {V : Type 0} (f g : ℕ → V) (xs : List ℕ) → All (λ x. f x ≡ g x) xs → map f xs ≡ map g xs
+same_map : {V : Type 0} (f g : ℕ → V) (xs : List ℕ) → AllByRecursion (λ x. f x ≡ g x) xs → map f xs ≡ map g xs
 same_map f g [] h = refl
 same_map f g (x ∷ xs) h = λ i. h.0 i ∷ same_map f g xs h.1 i
 
@@ -70,7 +70,7 @@ module _ {V : Type 0} (m : Meaning) (r : Rule V) (way : Way) (step : Step) (j : 
   foreign_stays : (k : Class) (i : ℕ) → n ≤ count_of m j c → Foreign m j c k i → get_or (partly m r way step j c n vs) (first_place m j k + i) r.zero ≡ get_or vs (first_place m j k + i) r.zero
   foreign_stays k i few out = partly_outside (first_place m j k + i) (⊎_elim (λ l. inl l) (λ l. inr (omega arith)) out)
 
-  values_outside : (k : Class) (ns : List ℕ) → n ≤ count_of m j c → All (Foreign m j c k) ns → values_of m r.zero (partly m r way step j c n vs) j k ns ≡ values_of m r.zero vs j k ns
+  values_outside : (k : Class) (ns : List ℕ) → n ≤ count_of m j c → AllByRecursion (Foreign m j c k) ns → values_of m r.zero (partly m r way step j c n vs) j k ns ≡ values_of m r.zero vs j k ns
   values_outside k ns few out =
       same_map
       (λ i. get_or (partly m r way step j c n vs) (first_place m j k + i) r.zero)

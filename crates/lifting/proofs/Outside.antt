@@ -1,6 +1,6 @@
 -- No class reads its own class: what a point reads stands outside the places of its class.
 use Rattle.std.proofs.Common.{◌≡◌, ℕ, ◌+◌, ◌<◌, ◌≤◌, false, eqb, ltb, leb, ◌⊎◌, inl, inr, ⊎_elim, arith}
-use Rattle.std.specs.List.{AllByRecursion as All}
+use Rattle.std.specs.List.{AllByRecursion}
 use Rattle.std.proofs.ByRecursion.{All-weaker, all_kept_by}
 use Rattle.std.proofs.lemmas.Bool.{and_left, and_right, lt-leb, le-ltb, cond_both}
 use Rattle.hierarchy.specs.Meaning.{Meaning}
@@ -25,9 +25,9 @@ abbrev pub Foreign : Meaning → ℕ → Class → Class → ℕ → Type 0
 Foreign m j c r n = Outside (first_place m j c) (count_of m j c) (first_place m j r + n)
 
 pub record Apart (m : Meaning) (j : ℕ) (c : Class) (q : Reads ℕ) : Type 0 where
-  pub vertices : All (Foreign m j c Vertex) q.vertices
-  pub edges : All (Foreign m j c Edge) q.edges
-  pub faces : All (Foreign m j c Face) q.faces
+  pub vertices : AllByRecursion (Foreign m j c Vertex) q.vertices
+  pub edges : AllByRecursion (Foreign m j c Edge) q.edges
+  pub faces : AllByRecursion (Foreign m j c Face) q.faces
 
 module _ {m : Meaning} (lawful : Lawful m) (j : ℕ) where
   none_apart : (c : Class) → Apart m j c none_read
@@ -35,8 +35,8 @@ module _ {m : Meaning} (lawful : Lawful m) (j : ℕ) where
 
   s_lift_apart : (c : Class) (i : ℕ) → Apart m j c (s_lift_reads m j c i)
   s_lift_apart Vertex v =
-      let edges : All (Foreign m j Vertex Edge) (m.list j VertexEdges v) = All-weaker (λ k. k < m.edges j) (Foreign m j Vertex Edge) (λ k l. inr (omega arith)) (m.list j VertexEdges v) (lawful.below j VertexEdges v) in
-      let faces : All (Foreign m j Vertex Face) (m.list j VertexFaces v) = All-weaker (λ k. k < m.faces j) (Foreign m j Vertex Face) (λ k l. inr (omega arith)) (m.list j VertexFaces v) (lawful.below j VertexFaces v) in
+      let edges : AllByRecursion (Foreign m j Vertex Edge) (m.list j VertexEdges v) = All-weaker (λ k. k < m.edges j) (Foreign m j Vertex Edge) (λ k l. inr (omega arith)) (m.list j VertexEdges v) (lawful.below j VertexEdges v) in
+      let faces : AllByRecursion (Foreign m j Vertex Face) (m.list j VertexFaces v) = All-weaker (λ k. k < m.faces j) (Foreign m j Vertex Face) (λ k l. inr (omega arith)) (m.list j VertexFaces v) (lawful.below j VertexFaces v) in
       let curves = all_kept_by (m.curve j) (Foreign m j Vertex Edge) (m.list j VertexEdges v) edges in
       cond_both
       (eqb (m.dimension j v) 2)
@@ -46,7 +46,7 @@ module _ {m : Meaning} (lawful : Lawful m) (j : ℕ) where
       (λ _. record { vertices = tt; edges = edges; faces = faces })
       (λ _. cond_both (eqb (m.dimension j v) 1) _ _ (Apart m j Vertex) (λ _. record { vertices = tt; edges = curves; faces = tt }) (λ _. none_apart Vertex))
   s_lift_apart Edge e =
-      let faces : All (Foreign m j Edge Face) (m.list j EdgeFaces e) = All-weaker (λ k. k < m.faces j) (Foreign m j Edge Face) (λ k l. inr (omega arith)) (m.list j EdgeFaces e) (lawful.below j EdgeFaces e) in
+      let faces : AllByRecursion (Foreign m j Edge Face) (m.list j EdgeFaces e) = All-weaker (λ k. k < m.faces j) (Foreign m j Edge Face) (λ k l. inr (omega arith)) (m.list j EdgeFaces e) (lawful.below j EdgeFaces e) in
       cond_both (m.curve j e) _ _ (Apart m j Edge) (λ _. none_apart Edge) (λ _. record { vertices = tt; edges = tt; faces = faces })
   s_lift_apart Face f = none_apart Face
 

@@ -6,7 +6,7 @@ use Rattle.std.proofs.lemmas.List.{append-nil, append_assoc, length-append, leng
 use Rattle.std.proofs.lemmas.List.Sums.{sum_by-cons, get_or-le-sum_by}
 use Rattle.std.proofs.lemmas.Bool.{cases_lt, cases_Bool, true≢false, false≢true, both_ways, eq-eqb, ne_eqb, cond_both, cond-true}
 use Rattle.std.proofs.lemmas.Bool.Decides.{nat_tests}
-use Rattle.std.specs.List.{AllByRecursion as All}
+use Rattle.std.specs.List.{AllByRecursion}
 use Rattle.mesh.specs.declared.Side.{Side}
 use Rattle.mesh.specs.Lowest.{lowest}
 use Rattle.mesh.specs.Shape.{nowhere, joins, edge_of, with_side, firsts}
@@ -98,8 +98,8 @@ Begins es fs = (more : List Side) × (fs ≡ es ++ more)
 begins_with : (es fs : List Side) (s : Side) → Begins es fs → Begins es (with_side fs s)
 begins_with es fs s b = cond_both (is_some (edge_of fs s)) fs (fs ++ s ∷ []) (Begins es) (λ _. b) (λ _. (b.0 ++ s ∷ [], ap (λ l. l ++ s ∷ []) b.1 ∙ append_assoc es b.0 (s ∷ [])))
 
-all_with : (P : Side → Type 0) (es : List Side) (s : Side) → P s → All P es → All P (with_side es s)
-all_with P es s here all = cond_both (is_some (edge_of es s)) es (es ++ s ∷ []) (All P) (λ _. all) (λ _. All-push P es s all here)
+all_with : (P : Side → Type 0) (es : List Side) (s : Side) → P s → AllByRecursion P es → AllByRecursion P (with_side es s)
+all_with P es s here all = cond_both (is_some (edge_of es s)) es (es ++ s ∷ []) (AllByRecursion P) (λ _. all) (λ _. All-push P es s all here)
 
 folded_begins : (es ss : List Side) → Begins es (fold with_side es ss)
 folded_begins es ss = folded_keeps with_side (Begins es) (begins_with es) es ss ([], sym (append-nil es))
@@ -125,21 +125,21 @@ known_begins es fs s b known =
     let stays = edge_of_append es b.0 s (number es s) (known_number es s known) in
     rw b.1 (ap is_some stays)
 
-known_folded : (es ss : List Side) → All (λ s. is_some (edge_of (fold with_side es ss) s) ≡ true) ss
+known_folded : (es ss : List Side) → AllByRecursion (λ s. is_some (edge_of (fold with_side es ss) s) ≡ true) ss
 known_folded es [] = tt
 known_folded es (s ∷ ss) = (known_begins (with_side es s) (fold with_side (with_side es s) ss) s (folded_begins (with_side es s) ss) (known_with es s), known_folded (with_side es s) ss)
 
 -- each side has its edge
-pub firsts_known : (ss : List Side) → All (λ s. is_some (edge_of (firsts ss) s) ≡ true) ss
+pub firsts_known : (ss : List Side) → AllByRecursion (λ s. is_some (edge_of (firsts ss) s) ≡ true) ss
 unfolding firsts
 firsts_known ss = known_folded [] ss
 
-all_folded : (P : Side → Type 0) (es ss : List Side) → All P es → All P ss → All P (fold with_side es ss)
+all_folded : (P : Side → Type 0) (es ss : List Side) → AllByRecursion P es → AllByRecursion P ss → AllByRecursion P (fold with_side es ss)
 all_folded P es [] before all = before
 all_folded P es (s ∷ ss) before all = all_folded P (with_side es s) ss (all_with P es s all.0 before) all.1
 
 -- each edge is one of the sides
-pub firsts_all : (P : Side → Type 0) (ss : List Side) → All P ss → All P (firsts ss)
+pub firsts_all : (P : Side → Type 0) (ss : List Side) → AllByRecursion P ss → AllByRecursion P (firsts ss)
 unfolding firsts
 firsts_all P ss all = all_folded P [] ss tt all
 
@@ -157,7 +157,7 @@ pub firsts_used : (ss : List Side) (i : ℕ) → i < length (firsts ss) → 1 �
 firsts_used ss i l = All-get_or (λ e. 1 ≤ count_by (joins e) ss) (firsts ss) i nowhere l (firsts_all (λ e. 1 ≤ count_by (joins e) ss) ss (All-from_get_or (λ e. 1 ≤ count_by (joins e) ss) ss nowhere (count_own ss)))
 
 -- what holds of the count of each edge holds of the count of each side
-pub count_from_firsts : (P : ℕ → Type 0) (ss : List Side) → ((i : ℕ) → i < length (firsts ss) → P (count_by (joins (get_or (firsts ss) i nowhere)) ss)) → All (λ s. P (count_by (joins s) ss)) ss
+pub count_from_firsts : (P : ℕ → Type 0) (ss : List Side) → ((i : ℕ) → i < length (firsts ss) → P (count_by (joins (get_or (firsts ss) i nowhere)) ss)) → AllByRecursion (λ s. P (count_by (joins s) ss)) ss
 count_from_firsts P ss h = All-weaker (λ s. is_some (edge_of (firsts ss) s) ≡ true) (λ s. P (count_by (joins s) ss)) at ss (firsts_known ss)
   where
     at : (s : Side) → is_some (edge_of (firsts ss) s) ≡ true → P (count_by (joins s) ss)
@@ -176,7 +176,7 @@ module _ (es : List Side) (apart : Apart es) where
       (λ no'. no' ∙ sym (ne_eqb (number es c) k (λ e. both_ways (joins (get_or es k nowhere) c) no' (subst (λ m. joins (get_or es m nowhere) c ≡ true) e (number_first es c known).1))))
       (cases_Bool (joins (get_or es k nowhere) c))
 
-  pub count_number : (k : ℕ) → k < length es → (cs : List Side) → All (λ c. is_some (edge_of es c) ≡ true) cs → count_by (joins (get_or es k nowhere)) cs ≡ count_by (λ n. eqb n k) (map (number es) cs)
+  pub count_number : (k : ℕ) → k < length es → (cs : List Side) → AllByRecursion (λ c. is_some (edge_of es c) ≡ true) cs → count_by (joins (get_or es k nowhere)) cs ≡ count_by (λ n. eqb n k) (map (number es) cs)
   count_number k l [] known = refl
   count_number k l (c ∷ cs) known =
       let here = joins_number k l c known.0 in

@@ -4,7 +4,7 @@ use Rattle.std.proofs.ByRecursion.{All-append}
 use Rattle.std.proofs.lemmas.List.Sums.{sum_by-append, count_by-le-length}
 use Rattle.std.proofs.lemmas.Bool.{cases_lt, cases_Bool, and_parts, and_from, or_parts, or_from, leb-false}
 use Rattle.std.proofs.lemmas.Bool.Decides.{nat_tests}
-use Rattle.std.specs.List.{AllByRecursion as All}
+use Rattle.std.specs.List.{AllByRecursion}
 use Rattle.mesh.specs.declared.Side.{Side}
 use Rattle.mesh.specs.Shape.{side, joins, touches, onward, around, sides, edges, uses, occurs, any}
 use Rattle.mesh.specs.Rules.{distinct, all_below, proper, Polygon}
@@ -36,7 +36,7 @@ two_corners n c d ds p =
     let apart = distinct_parts c (d ∷ ds) both.1 in
     (ends_from n c d below.0 (and_parts (ltb d n) (all_below n ds) below.1).0 (or_parts (eqb d c) (occurs c ds) apart.0).0, below.0, apart.0, and_from (all_below n (d ∷ ds)) (distinct (d ∷ ds)) below.1 apart.1)
 
-onward_ends : (n first c : ℕ) (ds : List ℕ) → ltb first n ≡ true → occurs first (c ∷ ds) ≡ false → proper n (c ∷ ds) ≡ true → All (Ends n) (onward first c ds)
+onward_ends : (n first c : ℕ) (ds : List ℕ) → ltb first n ≡ true → occurs first (c ∷ ds) ≡ false → proper n (c ∷ ds) ≡ true → AllByRecursion (Ends n) (onward first c ds)
 onward_ends n first c [] f o p =
     let below = and_parts (ltb c n) true (and_parts (all_below n (c ∷ [])) (distinct (c ∷ [])) p).0 in
     let other : eqb first c ≡ false = grind (arith, nat_tests) in
@@ -45,18 +45,18 @@ onward_ends n first c (d ∷ ds) f o p =
     let two = two_corners n c d ds p in
     (two.0, onward_ends n first d ds f (or_parts (eqb c first) (occurs first (d ∷ ds)) o).1 two.3)
 
-pub around_ends : (n : ℕ) (cs : List ℕ) → Polygon n cs → All (Ends n) (around cs)
+pub around_ends : (n : ℕ) (cs : List ℕ) → Polygon n cs → AllByRecursion (Ends n) (around cs)
 around_ends n [] p = tt
 around_ends n (c ∷ []) p = absurd (omega (arith, p.least))
 around_ends n (c ∷ d ∷ ds) p =
     let two = two_corners n c d ds p.proper in
     (two.0, onward_ends n c d ds two.1 two.2 two.3)
 
-pub sides_ends : (n : ℕ) (faces : List (List ℕ)) → All (Polygon n) faces → All (Ends n) (sides faces)
+pub sides_ends : (n : ℕ) (faces : List (List ℕ)) → AllByRecursion (Polygon n) faces → AllByRecursion (Ends n) (sides faces)
 sides_ends n [] all = tt
 sides_ends n (cs ∷ faces) all = All-append (Ends n) (around cs) (sides faces) (around_ends n cs all.0) (sides_ends n faces all.1)
 
-pub edges_ends : (n : ℕ) (faces : List (List ℕ)) → All (Polygon n) faces → All (Ends n) (edges faces)
+pub edges_ends : (n : ℕ) (faces : List (List ℕ)) → AllByRecursion (Polygon n) faces → AllByRecursion (Ends n) (edges faces)
 edges_ends n faces all = firsts_all (Ends n) (sides faces) (sides_ends n faces all)
 
 -- a side that touches v joins none that misses it

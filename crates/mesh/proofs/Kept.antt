@@ -3,7 +3,7 @@ use Rattle.std.proofs.Common.{◌≡◌, ℕ, zero, suc, ◌+◌, ◌≤◌, tru
 use Rattle.std.proofs.ByRecursion.{All-push}
 use Rattle.std.proofs.lemmas.List.{length_push, length-map, map_push, nil_from_length}
 use Rattle.std.proofs.lemmas.Bool.{ltb-false, leb-false, and_parts, or_parts, not-false}
-use Rattle.std.specs.List.{flat_map, AllByRecursion as All}
+use Rattle.std.specs.List.{flat_map, AllByRecursion}
 use Rattle.refusal.specs.declared.Refusal.{Refusal}
 use Rattle.mesh.specs.declared.Side.{Side}
 use Rattle.mesh.specs.Shape.{firsts, edges, edge_of, uses, occurs}
@@ -24,14 +24,14 @@ pub record Good (whole : List ℕ) (d : Draft) (bs : List ℕ) : Type 0 where
   -- the curve records as they stood
   pub curves : List Side
   pub spelled : whole ≡ flat_map (λ x. bytes_of (vertex x)) d.dims ++ (flat_map (λ f. bytes_of (face f)) d.faces ++ (flat_map (λ c. bytes_of (curve c)) curves ++ bs))
-  pub dimensions : All (λ x. x ≤ 2) d.dims
+  pub dimensions : AllByRecursion (λ x. x ≤ 2) d.dims
   pub most_vertices : length d.dims ≤ 256
-  pub polygons : All (Polygon (length d.dims)) d.faces
+  pub polygons : AllByRecursion (Polygon (length d.dims)) d.faces
   pub most_faces : length d.faces ≤ 256
   pub most_edges : length (edges d.faces) ≤ 512
   pub two_faces : (t : Side) → uses d.faces t ≤ 2
   pub named : d.named ≡ map (number (edges d.faces)) curves
-  pub known : All (λ c. is_some (edge_of (edges d.faces) c) ≡ true) curves
+  pub known : AllByRecursion (λ c. is_some (edge_of (edges d.faces) c) ≡ true) curves
   pub once : distinct d.named ≡ true
 
 module _ (whole : List ℕ) (d : Draft) (bs : List ℕ) where

@@ -5,7 +5,7 @@ use Rattle.std.proofs.lemmas.List.{append_assoc, get_or_default, flat_map_more}
 use Rattle.std.proofs.lemmas.List.Sums.{sum_by-cons}
 use Rattle.std.proofs.lemmas.Bool.{cases_Bool, true≢false, or_parts, or_from}
 use Rattle.std.proofs.lemmas.Bool.Decides.{Decides-by_or}
-use Rattle.std.specs.List.{flat_map, AllByRecursion as All}
+use Rattle.std.specs.List.{flat_map, AllByRecursion}
 use Rattle.mesh.specs.Shape.{any}
 use Rattle.mesh.specs.Reading.{empty}
 
@@ -21,16 +21,16 @@ pub empty_some : {A : Type 0} (xs : List A) → 0 < length xs → empty xs ≡ f
 empty_some [] l = absurd (omega arith)
 empty_some (x ∷ xs) l = refl
 
-pub all_parts : {A : Type 0} (P : A → Type 0) (xs ys : List A) → All P (xs ++ ys) → All P xs × All P ys
+pub all_parts : {A : Type 0} (P : A → Type 0) (xs ys : List A) → AllByRecursion P (xs ++ ys) → AllByRecursion P xs × AllByRecursion P ys
 all_parts P [] ys all = (tt, all)
 all_parts P (x ∷ xs) ys all = let parts = all_parts P xs ys all.1 in ((all.0, parts.0), parts.1)
 
 module _ {A : Type 0} (p : A → Bool) where
-  pub any_none : (xs : List A) → All (λ x. p x ≡ false) xs → any p xs ≡ false
+  pub any_none : (xs : List A) → AllByRecursion (λ x. p x ≡ false) xs → any p xs ≡ false
   any_none [] all = refl
   any_none (x ∷ xs) all = or_from (p x) (any p xs) all.0 (any_none xs all.1)
 
-  pub all_fail : (xs : List A) → any p xs ≡ false → All (λ x. p x ≡ false) xs
+  pub all_fail : (xs : List A) → any p xs ≡ false → AllByRecursion (λ x. p x ≡ false) xs
   all_fail [] e = tt
   all_fail (x ∷ xs) e = let both = or_parts (p x) (any p xs) e in (both.0, all_fail xs both.1)
 
@@ -52,7 +52,7 @@ module _ {A : Type 0} (p : A → Bool) where
   countBy_none (x ∷ xs) e = let both = or_parts (p x) (any p xs) e in countBy_no x xs both.0 ∙ countBy_none xs both.1
 
   -- where one at least passes, one that passes has what all have
-  pub countBy_some : (P : A → Type 0) (xs : List A) → All P xs → 1 ≤ count_by p xs → (x : A) × (p x ≡ true) × P x
+  pub countBy_some : (P : A → Type 0) (xs : List A) → AllByRecursion P xs → 1 ≤ count_by p xs → (x : A) × (p x ≡ true) × P x
   countBy_some P [] all some = absurd (omega arith)
   countBy_some P (x ∷ xs) all some =
       ⊎_elim

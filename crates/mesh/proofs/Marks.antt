@@ -3,13 +3,13 @@ use Rattle.std.proofs.Common.{◌≡◌, ℕ, zero, suc, ◌+◌, ◌<◌, Bool,
 use Rattle.std.proofs.lemmas.List.FromFn.{fill_by_all}
 use Rattle.std.proofs.lemmas.List.{drop_all, drop_more}
 use Rattle.std.proofs.lemmas.Bool.{true≢false, or_from, or_left, eq-eqb, ne_eqb}
-use Rattle.std.specs.List.{range_with_len, AllByRecursion as All}
+use Rattle.std.specs.List.{range_with_len, AllByRecursion}
 use Rattle.mesh.specs.declared.Side.{Side}
 use Rattle.mesh.specs.Shape.{nowhere, sides, edges, marked, occurs}
 use Rattle.mesh.proofs.Edges.{number, firsts_itself}
 
 -- what holds of each edge whose mark is set holds of the marked edges
-pub all_marked : (P : Side → Type 0) (es : List Side) (ms : List Bool) → ((k : ℕ) → k < length es → get_or ms k false ≡ true → P (get_or es k nowhere)) → All P (marked es ms)
+pub all_marked : (P : Side → Type 0) (es : List Side) (ms : List Bool) → ((k : ℕ) → k < length es → get_or ms k false ≡ true → P (get_or es k nowhere)) → AllByRecursion P (marked es ms)
 all_marked P [] ms h = tt
 all_marked P (e ∷ es) [] h = tt
 all_marked P (e ∷ es) (true ∷ ms) h = (h 0 (omega arith) refl, all_marked P es ms (λ k l t. h (suc k) (omega arith) t))

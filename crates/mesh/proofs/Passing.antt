@@ -3,7 +3,7 @@ use Rattle.std.proofs.Common.{◌≡◌, ℕ, ◌+◌, ◌<◌, ◌≤◌, Bool,
 use Rattle.std.proofs.ByRecursion.{All-from_get_or, All-get_or}
 use Rattle.std.proofs.lemmas.List.{append_assoc, length-append, length_push, drop_all, drop_more}
 use Rattle.std.proofs.lemmas.Bool.{le-ltb, lt-leb, ne_eqb, or_from, not_from_true}
-use Rattle.std.specs.List.{AllByRecursion as All}
+use Rattle.std.specs.List.{AllByRecursion}
 use Rattle.mesh.specs.declared.Side.{Side}
 use Rattle.mesh.specs.Shape.{nowhere, around, sides, firsts, edges, uses, marked, occurs}
 use Rattle.mesh.specs.Rules.{Polygon}
@@ -14,7 +14,7 @@ use Rattle.mesh.proofs.Edges.{count_own, firsts_itself, firsts_longer}
 use Rattle.mesh.proofs.Faces.{sides_append, uses_append, uses_cons, Ends}
 use Rattle.mesh.proofs.Drafts.{Passed, Passes}
 
-pub passes_vertices : (before dims : List ℕ) → length before + length dims ≤ 256 → All (λ d. d ≤ 2) dims → Passes (record { dims = before; faces = []; named = [] }) (map vertex dims)
+pub passes_vertices : (before dims : List ℕ) → length before + length dims ≤ 256 → AllByRecursion (λ d. d ≤ 2) dims → Passes (record { dims = before; faces = []; named = [] }) (map vertex dims)
 passes_vertices before [] few all = tt
 passes_vertices before (x ∷ dims) few all = (
   tt,
@@ -27,14 +27,14 @@ passes_vertices before (x ∷ dims) few all = (
 pub record Bounded (faces : List (List ℕ)) : Type 0 where
   pub most_faces : length faces ≤ 256
   pub most_edges : length (edges faces) ≤ 512
-  pub shared : All (λ s. uses faces s ≤ 2) (sides faces)
+  pub shared : AllByRecursion (λ s. uses faces s ≤ 2) (sides faces)
 
 module _ (before after : List (List ℕ)) (cs : List ℕ) (b : Bounded (before ++ cs ∷ after)) where
   -- a face that comes next has sides with one face at most before it
-  one_face : All (λ s. leb 2 (uses before s) ≡ false) (around cs)
+  one_face : AllByRecursion (λ s. leb 2 (uses before s) ≡ false) (around cs)
   one_face =
       let Shared : Side → Type 0 = λ s. uses (before ++ cs ∷ after) s ≤ 2 in
-      let from-here = (all_parts Shared (sides before) (around cs ++ sides after) (subst (All Shared) (sides_append before (cs ∷ after)) b.shared)).1 in
+      let from-here = (all_parts Shared (sides before) (around cs ++ sides after) (subst (AllByRecursion Shared) (sides_append before (cs ∷ after)) b.shared)).1 in
       let here = (all_parts Shared (around cs) (sides after) from-here).0 in
       All-from_get_or (λ s. leb 2 (uses before s) ≡ false) (around cs) nowhere (λ i l.
       let s = get_or (around cs) i nowhere in
@@ -50,7 +50,7 @@ module _ (before after : List (List ℕ)) (cs : List ℕ) (b : Bounded (before +
       (lt-leb 256 (length before) (omega (arith, b.most_faces, length-append before (cs ∷ after))))
       (le-ltb 512 (length (edges (before ++ cs ∷ []))) (omega (arith, b.most_edges)))
 
-pub passes_faces : (dims : List ℕ) (before faces : List (List ℕ)) → All (Polygon (length dims)) faces → Bounded (before ++ faces) → Passes (record { dims = dims; faces = before; named = [] }) (map face faces)
+pub passes_faces : (dims : List ℕ) (before faces : List (List ℕ)) → AllByRecursion (Polygon (length dims)) faces → Bounded (before ++ faces) → Passes (record { dims = dims; faces = before; named = [] }) (map face faces)
 passes_faces dims before [] polygons b = tt
 passes_faces dims before (cs ∷ faces) polygons b = (
   (polygons.0.least, polygons.0.most),
@@ -60,7 +60,7 @@ passes_faces dims before (cs ∷ faces) polygons b = (
 )
 
 module _ (faces : List (List ℕ)) where
-  passed_curve : (dims named : List ℕ) → All (Ends (length dims)) (edges faces) → (i : ℕ) → i < length (edges faces) → occurs i named ≡ false → Passed (record { dims = dims; faces = faces; named = named }) (curve (get_or (edges faces) i nowhere))
+  passed_curve : (dims named : List ℕ) → AllByRecursion (Ends (length dims)) (edges faces) → (i : ℕ) → i < length (edges faces) → occurs i named ≡ false → Passed (record { dims = dims; faces = faces; named = named }) (curve (get_or (edges faces) i nowhere))
   passed_curve dims named ends i l new =
       record {
         in_order = refl;
@@ -71,7 +71,7 @@ module _ (faces : List (List ℕ)) where
       }
 
   -- the records of the edges from k on, where those before k are named
-  pub passes_curves : (dims : List ℕ) → All (Ends (length dims)) (edges faces) → (ms : List Bool) (k : ℕ) (named : List ℕ) → k + length ms ≡ length (edges faces) → ((i : ℕ) → k ≤ i → occurs i named ≡ false) → Passes (record { dims = dims; faces = faces; named = named }) (map curve (marked (drop k (edges faces)) ms))
+  pub passes_curves : (dims : List ℕ) → AllByRecursion (Ends (length dims)) (edges faces) → (ms : List Bool) (k : ℕ) (named : List ℕ) → k + length ms ≡ length (edges faces) → ((i : ℕ) → k ≤ i → occurs i named ≡ false) → Passes (record { dims = dims; faces = faces; named = named }) (map curve (marked (drop k (edges faces)) ms))
   passes_curves dims ends [] k named p new = rw (drop_all k (edges faces) (omega arith)) tt
   passes_curves dims ends (true ∷ ms) k named p new =
       rw (drop_more (edges faces) k nowhere (omega arith)) (

@@ -4,7 +4,7 @@ use Rattle.std.proofs.ByRecursion.{All-weaker, Decides-by_and}
 use Rattle.std.proofs.lemmas.List.{nil_from_length, take-append-drop, length-take-le}
 use Rattle.std.proofs.lemmas.Bool.{ltb-false, and_parts, not-false}
 use Rattle.std.proofs.lemmas.Bool.Decides.{Decides-ltb}
-use Rattle.std.specs.List.{flat_map, AllByRecursion as All}
+use Rattle.std.specs.List.{flat_map, AllByRecursion}
 use Rattle.refusal.specs.declared.Refusal.{Refusal}
 use Rattle.refusal.specs.declared.Refusal.TheVariants.{Truncated, UnknownKind}
 use Rattle.mesh.specs.Rules.{all_below, distinct, proper}
@@ -20,7 +20,7 @@ two_bytes_back low high small =
     let h : (low + 256 * high) / 256 ≡ high = omega arith in
     cc
 
-pub numbers_back : (bs : List ℕ) → length bs % 2 ≡ 0 → All (λ x. x < 256) (numbers bs) → flat_map two_bytes (numbers bs) ≡ bs
+pub numbers_back : (bs : List ℕ) → length bs % 2 ≡ 0 → AllByRecursion (λ x. x < 256) (numbers bs) → flat_map two_bytes (numbers bs) ≡ bs
 numbers_back [] even small = refl
 numbers_back (low ∷ []) even small = absurd (omega arith)
 numbers_back (low ∷ high ∷ bs) even small = ap (λ front. front ++ flat_map two_bytes (numbers bs)) (two_bytes_back low high small.0) ∙ ap (λ rest. low ∷ high ∷ rest) (numbers_back bs (omega arith) small.1)
@@ -30,7 +30,7 @@ length_numbers [] even = refl
 length_numbers (low ∷ []) even = absurd (omega arith)
 length_numbers (low ∷ high ∷ bs) even = let l = length_numbers bs (omega arith) in omega arith
 
-pub below_256 : (vertices : ℕ) → vertices ≤ 256 → (cs : List ℕ) → all_below vertices cs ≡ true → All (λ x. x < 256) cs
+pub below_256 : (vertices : ℕ) → vertices ≤ 256 → (cs : List ℕ) → all_below vertices cs ≡ true → AllByRecursion (λ x. x < 256) cs
 below_256 vertices few cs t =
     let all = (Decides-by_and (λ c. ltb c vertices) (λ c. c < vertices) (all_below vertices) (λ c. Decides-ltb c vertices) refl (λ _ _. refl) cs).0 t in
     All-weaker (λ c. c < vertices) (λ c. c < 256) (λ c l. omega arith) cs all

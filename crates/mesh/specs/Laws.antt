@@ -1,6 +1,6 @@
 -- What reading and writing have to do with each other.
 use Rattle.std.specs.Prelude.{◌≡◌, ℕ, true, List, is_some, Ok, count_by}
-use Rattle.std.specs.List.{AllByRecursion as All}
+use Rattle.std.specs.List.{AllByRecursion}
 use Rattle.mesh.specs.declared.Side.{Side}
 use Rattle.mesh.specs.Shape.{Shape, joins, edge_of, curve_edges}
 use Rattle.mesh.specs.Rules.{Rules}
@@ -13,8 +13,8 @@ pub record Writing (s : Shape) (bytes : List ℕ) : Type 0 where
   pub curves : List Side
   pub spelled : bytes ≡ written_with s.dims s.faces curves
   -- each names a curve edge, and each curve edge is named once
-  pub curves_only : All (λ c. is_some (edge_of (curve_edges s) c) ≡ true) curves
-  pub each_once : All (λ e. count_by (joins e) curves ≡ 1) (curve_edges s)
+  pub curves_only : AllByRecursion (λ c. is_some (edge_of (curve_edges s) c) ≡ true) curves
+  pub each_once : AllByRecursion (λ e. count_by (joins e) curves ≡ 1) (curve_edges s)
 
 -- what is written of a shape that keeps the rules is read as that shape
 abbrev pub ReadsBack : Type 0

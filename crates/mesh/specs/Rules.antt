@@ -1,6 +1,6 @@
 -- The rules that every base keeps.
 use Rattle.std.specs.Prelude.{◌≡◌, ℕ, ◌<◌, ◌≤◌, Bool, true, false, cond, not, ◌&&◌, List, [], ◌∷◌, length, ◌==◌, nat_lt, slice_index, slice_index_or}
-use Rattle.std.specs.List.{AllByRecursion as All}
+use Rattle.std.specs.List.{AllByRecursion}
 use Rattle.mesh.specs.Shape.{Shape, edges, uses, degree, occurs, corners, curve_edges, nowhere}
 
 abbrev pub distinct : List ℕ → Bool
@@ -29,8 +29,8 @@ pub record Rules (s : Shape) : Type 0 where
   pub most_vertices : length s.dims ≤ 256
   pub most_faces : length s.faces ≤ 256
   pub most_edges : length (edges s.faces) ≤ 512
-  pub dimensions : All (λ d. d ≤ 2) s.dims
-  pub polygons : All (Polygon (length s.dims)) s.faces
+  pub dimensions : AllByRecursion (λ d. d ≤ 2) s.dims
+  pub polygons : AllByRecursion (Polygon (length s.dims)) s.faces
   -- one mark for each edge
   pub marks : length s.curves ≡ length (edges s.faces)
   -- an edge lies in one or two faces, and is a curve where it lies in one

@@ -3,7 +3,7 @@ use Rattle.std.proofs.Common.{◌≡◌, ℕ, zero, suc, ◌+◌, ◌-◌, ◌*�
 use Rattle.std.proofs.lemmas.List.{get_or_append_left, get_or-append-add}
 use Rattle.std.proofs.lemmas.Bool.{cases_lt, and_parts, eq-eqb, both_ways}
 use Rattle.std.proofs.lemmas.Bool.Decides.{nat_tests}
-use Rattle.std.specs.List.{AllByRecursion as All}
+use Rattle.std.specs.List.{AllByRecursion}
 use Rattle.mesh.specs.Shape.{Shape, side, joins, sides, edges, corners, occurs}
 use Rattle.mesh.specs.Rules.{Polygon, Rules, all_below, distinct}
 use Rattle.mesh.proofs.Edges.{firsts_apart}
@@ -108,7 +108,7 @@ polygon_distinct : (n : ℕ) (f : List ℕ) → Polygon n f → distinct f ≡ t
 polygon_distinct n f p = (and_parts (all_below n f) (distinct f) p.proper).1
 
 -- a face has a vertex once
-vertices_apart : (n : ℕ) (gs : List (List ℕ)) → All (Polygon n) gs → (c d : ℕ) → c < length (corners gs) → d < length (corners gs) → face_at gs c ≡ face_at gs d → get_or (corners gs) c 0 ≡ get_or (corners gs) d 0 → c ≡ d
+vertices_apart : (n : ℕ) (gs : List (List ℕ)) → AllByRecursion (Polygon n) gs → (c d : ℕ) → c < length (corners gs) → d < length (corners gs) → face_at gs c ≡ face_at gs d → get_or (corners gs) c 0 ≡ get_or (corners gs) d 0 → c ≡ d
 vertices_apart n [] all c d l k f e = absurd (omega arith)
 vertices_apart n (g ∷ gs) all c d l k f e =
     by_faces (λ c. face_at (g ∷ gs) c ≡ face_at (g ∷ gs) d → get_or (corners (g ∷ gs)) c 0 ≡ get_or (corners (g ∷ gs)) d 0 → c ≡ d) g gs
@@ -126,7 +126,7 @@ third_way : (n c : ℕ) → 3 ≤ n → c < n → forth_in n (forth_in n c) ≢ 
 third_way n c h l e = grind (arith, nat_tests)
 
 -- with three corners or more, going on twice leads elsewhere
-forth_twice : (n : ℕ) (gs : List (List ℕ)) → All (Polygon n) gs → (c : ℕ) → c < length (corners gs) → forth_at gs (forth_at gs c) ≢ c
+forth_twice : (n : ℕ) (gs : List (List ℕ)) → AllByRecursion (Polygon n) gs → (c : ℕ) → c < length (corners gs) → forth_at gs (forth_at gs c) ≢ c
 forth_twice n [] all c l = absurd (omega arith)
 forth_twice n (g ∷ gs) all c l =
     by_faces (λ c. forth_at (g ∷ gs) (forth_at (g ∷ gs) c) ≢ c) g gs
@@ -141,7 +141,7 @@ runs_both m e a b p q (inl x) (inr y) = inr (sym x.0 ∙ y.0, sym x.1 ∙ y.1)
 runs_both m e a b p q (inr x) (inl y) = inr (sym x.1 ∙ y.1, sym x.0 ∙ y.0)
 runs_both m e a b p q (inr x) (inr y) = inl (sym x.1 ∙ y.1)
 
-corners_most : (n : ℕ) (gs : List (List ℕ)) → All (Polygon n) gs → length (corners gs) ≤ 8 * length gs
+corners_most : (n : ℕ) (gs : List (List ℕ)) → AllByRecursion (Polygon n) gs → length (corners gs) ≤ 8 * length gs
 corners_most n [] all = omega arith
 corners_most n (g ∷ gs) all = omega (arith, length_corners g gs, all.0.most, corners_most n gs all.1)
 

@@ -2,7 +2,7 @@
 use Rattle.std.proofs.Common.{◌≡◌, ℕ, ◌+◌, ◌*◌, ◌/◌, ◌%◌, ◌<◌, ◌≤◌, Bool, true, false, cond, ◌&&◌, ◌||◌, eqb, ltb, List, [], map, filter, sym, refl, ap, ◌∙◌, ap₂, ⊎_elim, arith}
 use mathlib.Core.Bool.{and_comm}
 use mathlib.Core.Path.{fun_ext}
-use Rattle.std.specs.List.{range_with_len, AllByRecursion as All}
+use Rattle.std.specs.List.{range_with_len, AllByRecursion}
 use Rattle.std.proofs.ByRecursion.{all_kept_by, All-weaker}
 use Rattle.std.proofs.lemmas.Bool.{cases_eq, cases_lt, cond-true, cond-false, lt-ltb, le-ltb, eq-eqb, ne_eqb, eqb-true, and_parts, and_from, or_left, or_right}
 use Rattle.plan.specs.Sorting.{having, sorted}
@@ -73,7 +73,7 @@ module _ (t : List ℕ) (b : Block) (m : Level) (shows : Shows t b m) (lists : L
   abbrev n : Counts b m
   n = shows.counts
 
-  picked : (p : ℕ → Bool) (key : ℕ → ℕ) (x : ℕ) → All (λ c. c < m.corners) (filter p (sorted key x (range_with_len 0 m.corners)))
+  picked : (p : ℕ → Bool) (key : ℕ → ℕ) (x : ℕ) → AllByRecursion (λ c. c < m.corners) (filter p (sorted key x (range_with_len 0 m.corners)))
   picked p key x = all_kept_by p (λ c. c < m.corners) _ (sorted_all (λ c. c < m.corners) key x (range_with_len 0 m.corners) (counting_below m.corners))
 
   -- faces at what corners have

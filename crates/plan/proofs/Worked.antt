@@ -1,6 +1,6 @@
 -- What refinement works out from a block's arrays is the next finer level. Assumes nothing.
 use Rattle.std.proofs.Common.{◌≡◌, ℕ, ◌+◌, ◌-◌, ◌*◌, ◌/◌, ◌%◌, ◌^◌, ◌<◌, ◌≤◌, Bool, true, false, cond, eqb, ltb, List, get_or, sym, refl, ap, ◌∙◌, subst, ap₂, inl, ⊎_elim, arith}
-use Rattle.std.specs.List.{range_with_len, AllByRecursion as All}
+use Rattle.std.specs.List.{range_with_len, AllByRecursion}
 use Rattle.std.proofs.ByRecursion.{All-weaker}
 use Rattle.std.proofs.lemmas.Bool.{cases_lt, cond-true, cond-false, cond_both, lt-ltb, le-ltb, eqb-true, eq-eqb, ne_eqb}
 use Rattle.plan.specs.Sorting.{Keeps}
@@ -139,7 +139,7 @@ module _ (t : List ℕ) (b : Block) (m : Level) (s : Standing t b m) where
   abbrev n : Counts b m
   n = s.shows.counts
 
-  small_vertices : All (λ c. m.vertex c < m.vertices) (range_with_len 0 m.corners)
+  small_vertices : AllByRecursion (λ c. m.vertex c < m.vertices) (range_with_len 0 m.corners)
   small_vertices = All-weaker (λ c. c < m.corners) (λ c. m.vertex c < m.vertices) s.sound.placed (range_with_len 0 m.corners) (counting_below m.corners)
 
   shown_back : (c : ℕ) → c < m.corners → d.back c ≡ m.back c

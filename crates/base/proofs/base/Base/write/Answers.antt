@@ -1,5 +1,5 @@
 use Rattle.std.proofs.Common.{◌≡◌, ℕ, ◌≤◌, List, ◌++◌, length, vec_items, sum, sym, ap, ◌∙◌, subst, ap₂}
-use Rattle.std.specs.List.{flat_map, AllByRecursion as All}
+use Rattle.std.specs.List.{flat_map, AllByRecursion}
 use Rattle.mesh.specs.Reading.{reading}
 use Rattle.mesh.specs.declared.Side.{Side}
 use Rattle.mesh.specs.Records.{bytes_of, vertex, face, curve}
@@ -27,7 +27,7 @@ write_faces-requires c =
     let sizes = c.deref-4.ensures.value in
     record {
       total = ap sum sizes ∙ b.total ∙ sym (ap length c.deref-5.ensures.value);
-      short = subst (All (λ k. k ≤ 8)) (sym sizes) (sizes_short (length (vec_items b.dims)) (vec_items b.sizes) (vec_items b.sides) b.total (rules b).polygons);
+      short = subst (AllByRecursion (λ k. k ≤ 8)) (sym sizes) (sizes_short (length (vec_items b.dims)) (vec_items b.sizes) (vec_items b.sides) b.total (rules b).polygons);
     }
 
 pub returns : goal.returns
