@@ -24,8 +24,8 @@ pub(crate) fn read_all<R: Copy, T: MadeFrom<R>>(
 
 // The first so many items, written over the first records.
 pub(crate) fn write_front<T: Copy, R: MadeFrom<T>>(records: &mut [R], items: &[T], count: usize)
-    requires count_in_bounds { count ≤ length records.old }
-    requires count_in_bounds_2 { count ≤ length items.now }
+    requires records { count ≤ length records.old }
+    requires items { count ≤ length items.now }
     ensures { records.new ≡ map R.MadeFrom.of (take count items.now) ++ drop count records.old }
 {
     for i in 0..count {

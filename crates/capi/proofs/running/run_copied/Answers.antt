@@ -9,7 +9,7 @@ use Rattle.capi.proofs.running.run_copied.Goals as goal
 pub write_front-requires : goal.write_front-requires
 write_front-requires g c =
     let as_many : length c.args.pairs.now ≡ length c.args.values.now = ap length c.requires ∙ length-map c.args.values.now of_pairs.arrives in
-    record { count_in_bounds = omega (arith, as_many, c.run_both-result.auto.pairs); count_in_bounds_2 = omega arith }
+    record { records = omega (arith, as_many, c.run_both-result.auto.pairs); items = omega arith }
 
 pub returns : goal.returns
 returns g c =

@@ -24,7 +24,7 @@ write_front-requires-2 g c =
     let m = g.H.Hierarchy.meaning c.args.h.now in
     let r = rule g.S.Scheme g.V.ValueKind c.args.s.now in
     let few = few_made m r (g.S.Scheme.uniform c.args.s.now) c.args.depth c.args.calls.now before (lent_to c.perform.new.points c.perform.new.slots c.perform.new.answers) c.in_ok-count.count c.in_ok-count.ensures in
-    record { count_in_bounds = omega (arith, few, c.requires.answers); count_in_bounds_2 = omega (arith, few, c.perform.auto.answers) }
+    record { records = omega (arith, few, c.requires.answers); items = omega (arith, few, c.perform.auto.answers) }
 
 pub returns : goal.returns
 returns g c =
