@@ -30,6 +30,13 @@ pub trait Hierarchy {
     fn faces(&self, level: usize) -> usize
         ensures { result ≡ (meaning self.now).faces level };
 
+    // How many places there are: as many as the finest level has vertices.
+    fn places(&self) -> usize
+        ensures { result ≡ (meaning self.now).vertices (meaning self.now).levels }
+    {
+        self.vertices(self.levels())
+    }
+
     // What a relation lists of a number; nothing past the finest level or past a count.
     fn list(&self, level: usize, link: Link, of: usize) -> Self::Listing
         ensures { listed self.now result ≡ (meaning self.now).list level link of };
