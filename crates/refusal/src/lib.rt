@@ -1,14 +1,17 @@
 // Every refusal that the product can answer, in one closed table.
 #![tactic(auto)]
 
-ghost use Rattle.std.specs.Prelude.{◌≡◌};
+ghost use Rattle.std.specs.Prelude.{◌≡◌, Some};
 ghost use Rattle.refusal.specs.Table.{row};
+ghost use Rattle.refusal.specs.Printed.{printed, printed_fault};
 ghost use Rattle.refusal.specs.declared.Fault.TheVariants.{Refused as Refused-by, Memory};
 
 use std::alloc::{AllocError, AllocFailed as Unstored};
+use std::error::Error;
+use std::fmt;
 
 // What was wrong with a call, with the place or number at which it was.
-#[derive(Clone, Copy, Debug)]
+#[derive(Clone, Copy, Debug, PartialEq, Eq)]
 pub enum Refusal {
     // the bytes end inside this record, or before an end record
     Truncated(usize),
@@ -120,14 +123,40 @@ impl Refusal {
     }
 }
 
+// The row as every program prints it.
+impl fmt::Display for Refusal {
+    ghost output = { λ x. Some (printed x) };
+
+    fn fmt<W: fmt::Write>(&self, f: &mut fmt::Formatter<W>) -> fmt::Result {
+        let number = self.number();
+        let value = self.value();
+        write!(f, "refused {number} {value}")
+    }
+}
+
+impl Error for Refusal {}
+
 // Why a call that may need memory did not do its work.
-#[derive(Clone, Copy, Debug)]
+#[derive(Clone, Copy, Debug, PartialEq, Eq)]
 pub enum Fault {
     // what was handed in is refused
     Refused(Refusal),
     // there was no memory; this stands outside the table and has no number
     Memory,
 }
+
+impl fmt::Display for Fault {
+    ghost output = { λ x. Some (printed_fault x) };
+
+    fn fmt<W: fmt::Write>(&self, f: &mut fmt::Formatter<W>) -> fmt::Result {
+        match self {
+            Fault::Refused(refusal) => write!(f, "{refusal}"),
+            Fault::Memory => write!(f, "out of memory"),
+        }
+    }
+}
+
+impl Error for Fault {}
 
 impl From<Refusal> for Fault {
     ghost from_gives = { λ e r. r ≡ Refused-by e };
