@@ -29,3 +29,7 @@ curve_front n (k ∷ a ∷ b ∷ c ∷ d ∷ rest) l e = ap (λ x. next n (x ∷
 pub face_front : (n : ℕ) (bs : List ℕ) → 1 ≤ length bs → next n bs ≡ next n (get_or bs 0 0 ∷ drop 1 bs)
 face_front n [] l = absurd (omega arith)
 face_front n (k ∷ rest) l = refl
+
+-- two bytes as a number, the low one first
+pub low_first : (r low high : ℕ) → r ≡ low + high * 256 → r ≡ low + 256 * high
+low_first r low high e = omega arith

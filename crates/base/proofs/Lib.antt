@@ -2,6 +2,7 @@ pub mod Heads
 pub mod Judging
 pub mod Readings
 pub mod Rows
+pub mod Searches
 pub mod Starting
 pub mod Steps
 pub mod Tables

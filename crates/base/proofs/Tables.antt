@@ -1,13 +1,11 @@
--- The tables of a draft when a face is added. Assumes nothing.
-use Rattle.std.proofs.Common.{◌≡◌, ℕ, ◌+◌, ◌≤◌, List, [], ◌∷◌, ◌++◌, map, length, take, drop, vec_items, fold, sum, sym, refl, ap, ◌∙◌, ap₂, arith}
+-- The tables of a mesh when a face is added. Assumes nothing.
+use Rattle.std.proofs.Common.{◌≡◌, ℕ, ◌+◌, ◌≤◌, List, [], ◌∷◌, ◌++◌, map, length, take, drop, fold, sum, sym, refl, ap, ◌∙◌, ap₂, arith}
 use Rattle.std.proofs.lemmas.List.{append-nil, length-append, length-drop, length-map, length-take-le, take_all, take-append-le, drop-append-le, nil_from_length}
 use Rattle.std.proofs.lemmas.List.Sums.{sum_by-cons, sum_by_push}
 use Rattle.mesh.specs.declared.Side.{Side}
 use Rattle.mesh.specs.Shape.{onward, around, sides, edges, firsts, with_side}
 use Rattle.mesh.proofs.Faces.{sides_append}
 use Rattle.mesh.proofs.Lists.{folded_append}
-use Rattle.base.specs.declared.draft.Draft.{Draft}
-use Rattle.base.specs.Drafts.{drafted, Tied}
 use Rattle.base.specs.Faces.{parts}
 
 tails_onward : (first c : ℕ) (cs : List ℕ) → map (λ (s : Side). s.tail) (onward first c cs) ≡ c ∷ cs
@@ -51,21 +49,22 @@ pub edges_more : (faces : List (List ℕ)) (cs : List ℕ) → edges (faces ++ c
 unfolding firsts
 edges_more faces cs = ap (fold with_side []) (sides_more faces cs) ∙ folded_append with_side [] (sides faces) (around cs)
 
-module _ (m m' : Draft) (cs : List ℕ) (tied : Tied m)
-    (sizes' : vec_items m'.sizes ≡ vec_items m.sizes ++ length cs ∷ [])
-    (sides' : vec_items m'.sides ≡ vec_items m.sides ++ around cs)
-    (edges' : vec_items m'.edges ≡ fold with_side (vec_items m.edges) (around cs)) where
-  pub faces_more : (drafted m').faces ≡ (drafted m).faces ++ cs ∷ []
+-- a face more, whose sides are fs
+module _ (ks ks' : List ℕ) (ss ss' es es' fs : List Side) (cs : List ℕ)
+    (total : sum ks ≡ length ss) (sided : ss ≡ sides (parts ks ss)) (edged : es ≡ edges (parts ks ss)) (round : fs ≡ around cs)
+    (sizes' : ks' ≡ ks ++ length fs ∷ []) (sides' : ss' ≡ ss ++ fs) (edges' : es' ≡ fold with_side es fs) where
+  pub faces_more : parts ks' ss' ≡ parts ks ss ++ cs ∷ []
   faces_more =
-      ap₂ parts (sizes' ∙ ap (λ n. vec_items m.sizes ++ n ∷ []) (sym (length_around cs))) sides'
-      ∙ parts_more (vec_items m.sizes) (vec_items m.sides) (around cs) tied.total
-      ∙ ap (λ l. (drafted m).faces ++ l ∷ []) (tails_around cs)
+      ap₂ parts sizes' sides' ∙ parts_more ks ss fs total
+      ∙ ap (λ l. parts ks ss ++ l ∷ []) (ap (map (λ s. s.tail)) round ∙ tails_around cs)
 
-  pub tied_more : Tied m'
-  tied_more = record {
-    total =
-        ap sum sizes' ∙ sum_by_push (λ (x : ℕ). x) (vec_items m.sizes) (length cs) ∙ ap₂ ◌+◌ tied.total (sym (length_around cs))
-        ∙ sym (length-append (vec_items m.sides) (around cs)) ∙ sym (ap length sides');
-    sided = sides' ∙ ap (λ l. l ++ around cs) tied.sided ∙ sym (sides_more (drafted m).faces cs) ∙ ap sides (sym faces_more);
-    edged = edges' ∙ ap (λ l. fold with_side l (around cs)) tied.edged ∙ sym (edges_more (drafted m).faces cs) ∙ ap edges (sym faces_more);
-  }
+  pub total_more : sum ks' ≡ length ss'
+  total_more =
+      ap sum sizes' ∙ sum_by_push (λ (x : ℕ). x) ks (length fs) ∙ ap (λ n. n + length fs) total
+      ∙ sym (length-append ss fs) ∙ sym (ap length sides')
+
+  pub sided_more : ss' ≡ sides (parts ks' ss')
+  sided_more = sides' ∙ ap₂ ◌++◌ sided round ∙ sym (sides_more (parts ks ss) cs) ∙ ap sides (sym faces_more)
+
+  pub edged_more : es' ≡ edges (parts ks' ss')
+  edged_more = edges' ∙ ap₂ (fold with_side) edged round ∙ sym (edges_more (parts ks ss) cs) ∙ ap edges (sym faces_more)

@@ -6,10 +6,10 @@ use Rattle.refusal.specs.declared.Refusal.{Refusal}
 use Rattle.mesh.specs.Shape.{Shape, edges}
 use Rattle.base.specs.declared.base.Base.{Base}
 use Rattle.base.specs.declared.counts.Counts.{Counts}
-use Rattle.base.specs.Faces.{shaped}
+use Rattle.base.specs.Meshes.{with_marks}
 
 abbrev pub shape : Base → Shape
-shape b = shaped (vec_items b.dims) (vec_items b.sizes) (vec_items b.sides) (vec_items b.curves)
+shape b = with_marks b.mesh (vec_items b.curves)
 
 abbrev pub counted : Shape → Counts
 counted s = record { vertices = length s.dims; edges = length (edges s.faces); faces = length s.faces }

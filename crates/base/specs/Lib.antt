@@ -1,4 +1,5 @@
 pub mod Bases
 pub mod Drafts
 pub mod Faces
+pub mod Meshes
 pub mod Views

@@ -13,28 +13,28 @@ impl Base {
         ensures value { result.now ≡ (shape self.now).dims }
         ensures rules { Rules (shape self.now) }
     {
-        self.dims.as_slice()
+        self.mesh.dims.as_slice()
     }
 
     // Each face's number of corners.
     pub fn face_sizes(&self) -> &[usize]
         ensures { result.now ≡ map length (shape self.now).faces }
     {
-        self.sizes.as_slice()
+        self.mesh.sizes.as_slice()
     }
 
     // The sides of all faces, face after face.
     pub fn face_sides(&self) -> &[Side]
         ensures { result.now ≡ sides_of (shape self.now).faces }
     {
-        self.sides.as_slice()
+        self.mesh.sides.as_slice()
     }
 
     // Each edge in its first direction.
     pub fn edge_sides(&self) -> &[Side]
         ensures { result.now ≡ edges_of (shape self.now).faces }
     {
-        self.edges.as_slice()
+        self.mesh.edges.as_slice()
     }
 
     // Of each edge, whether it is a curve.

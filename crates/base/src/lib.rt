@@ -2,10 +2,11 @@
 #![tactic(auto)]
 
 mod base;
-mod corners;
 mod counts;
 mod draft;
+mod face;
 mod lending;
+mod meshes;
 mod reading;
 mod record;
 mod rules;

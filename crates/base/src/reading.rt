@@ -7,26 +7,27 @@ ghost use Rattle.mesh.specs.Records.{written};
 ghost use Rattle.mesh.specs.Rules.{Rules};
 ghost use Rattle.mesh.specs.Shape.{Shape, starting};
 ghost use Rattle.base.specs.Bases.{shape, counted, Answers};
-ghost use Rattle.base.specs.Drafts.{Failed, Ended};
+ghost use Rattle.base.specs.Drafts.{drafted, Failed};
 
 use crate::base::Base;
 use crate::counts::Counts;
 use crate::draft::Draft;
+use crate::meshes::Mesh;
 use crate::record::{Record, next_record};
-use crate::rules::judge;
 use mesh::Side;
 use refusal::{Fault, Refusal};
 use std::alloc::{AllocError, Global};
 
 // The draft at the end record, and the bytes after it. A record has a byte at least, so there are no more turns than bytes.
+// The counter is the record's number, which each refusal names: an iterator of records would hand it out beside each.
 fn read_records<'a>(heap: Global, bytes: &'a [u8]) -> Result<(Draft, &'a [u8]), Fault>
-    ensures { MatchResult result (λ p. Ended p.0 p.1.now (records (length bytes.now) 0 blank bytes.now)) (λ f. Failed f (records (length bytes.now) 0 blank bytes.now)) }
+    ensures { MatchResult result (λ p. records (length bytes.now) 0 blank bytes.now ≡ Ok (drafted p.0, p.1.now)) (λ f. Failed f (records (length bytes.now) 0 blank bytes.now)) }
 {
     let mut draft = Draft::new(heap);
     let mut rest = bytes;
     for number in 0..bytes.len() {
         let (next, after) = next_record(rest, number)?;
-        draft.take(heap, next, number)?;
+        draft = draft.take(heap, next, number)?;
         if let Record::End = next {
             return Ok((draft, after));
         }
@@ -43,22 +44,10 @@ fn read_base(heap: Global, bytes: &[u8]) -> Result<Base, Fault>
     if !rest.is_empty() {
         return Err(Fault::Refused(Refusal::TrailingByte(bytes.len().saturating_sub(rest.len()))));
     }
-    let curves = judge(heap, &draft)?;
-    let Draft {
-        dims,
-        sizes,
-        sides,
-        edges,
-        named,
-    } = draft;
+    let curves = draft.judge(heap)?;
+    let Draft { mesh, named } = draft;
     drop(named);
-    Ok(Base {
-        dims,
-        sizes,
-        sides,
-        edges,
-        curves,
-    })
+    Ok(Base { mesh, curves })
 }
 
 impl Base {
@@ -76,22 +65,22 @@ impl Base {
         let sides = Vec::from_slice(heap, &round)?;
         let edges = Vec::from_slice(heap, &round)?;
         let curves = Vec::from_slice(heap, &[true, true, true])?;
-        Ok(Base {
+        let mesh = Mesh {
             dims,
             sizes,
             sides,
             edges,
-            curves,
-        })
+        };
+        Ok(Base { mesh, curves })
     }
 
     pub fn counts(&self) -> Counts
         ensures { result ≡ counted (shape self.now) }
     {
         Counts {
-            vertices: self.dims.len(),
-            edges: self.edges.len(),
-            faces: self.sizes.len(),
+            vertices: self.mesh.dims.len(),
+            edges: self.mesh.edges.len(),
+            faces: self.mesh.sizes.len(),
         }
     }
 

@@ -1,5 +1,5 @@
 // The byte reader: one record at a time from the front of the bytes.
-ghost use Rattle.std.specs.Prelude.{◌≡◌, ◌+◌, ◌*◌, ◌≤◌, ◌∷◌};
+ghost use Rattle.std.specs.Prelude.{◌≡◌, ◌≤◌, ◌∷◌};
 ghost use Rattle.mesh.specs.Records.{next};
 ghost use Rattle.base.specs.Views.{seen};
 
@@ -15,13 +15,6 @@ pub enum Record<'a> {
     End,
 }
 
-// Two bytes, the low one first.
-pub(crate) fn vertex_number(low: u8, high: u8) -> u16
-    ensures { result ≡ low + 256 * high }
-{
-    u16::from(low) + 256 * u16::from(high)
-}
-
 // The record at the front of `bytes`, which is record `number` of its base, and the bytes after it.
 pub fn next_record<'a>(bytes: &'a [u8], number: usize) -> Result<(Record<'a>, &'a [u8]), Refusal>
     ensures { seen result ≡ next number bytes.now }
@@ -30,8 +23,8 @@ pub fn next_record<'a>(bytes: &'a [u8], number: usize) -> Result<(Record<'a>, &'
         [0, rest @ ..] => Ok((Record::End, rest)),
         [1, dimension, rest @ ..] => Ok((Record::Vertex(*dimension), rest)),
         [2, a, b, c, d, rest @ ..] => {
-            let tail = vertex_number(*a, *b);
-            let head = vertex_number(*c, *d);
+            let tail = u16::from_le_bytes([*a, *b]);
+            let head = u16::from_le_bytes([*c, *d]);
             Ok((Record::Curve(Side { tail, head }), rest))
         }
         [kind @ 3..=8, rest @ ..] => face_record(*kind, rest, number),
@@ -49,10 +42,8 @@ fn face_record<'a>(
     requires { (3 ≤ kind) × (kind ≤ 8) }
     ensures { seen result ≡ next number (kind ∷ rest.now) }
 {
-    let length = 2 * usize::from(kind);
-    if rest.len() < length {
+    let Some((body, after)) = rest.split_at_checked(2 * usize::from(kind)) else {
         return Err(Refusal::Truncated(number));
-    }
-    let (body, after) = rest.split_at(length);
+    };
     Ok((Record::Face(body), after))
 }

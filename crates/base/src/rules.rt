@@ -1,11 +1,10 @@
 // The rules that can be judged only once all records are read.
-ghost use Rattle.std.specs.Prelude.{◌≡◌, false, not, ◌&&◌, ◌||◌, map, length, IfOk, count_by, MatchResult, ◌==◌, nat_eq, nat_lt, slice_index, slice_index_or};
-ghost use Rattle.std.specs.List.{range_with_len};
+ghost use Rattle.std.specs.Prelude.{◌≡◌, not, length, IfOk, MatchResult, slice_index};
 ghost use Rattle.mesh.specs.Lowest.{lowest};
-ghost use Rattle.mesh.specs.Reading.{checked, finished};
+ghost use Rattle.mesh.specs.Reading.{checked, finished, open_edge, bad_valence};
 ghost use Rattle.mesh.specs.Rules.{fits};
-ghost use Rattle.mesh.specs.Shape.{any, joins, degree, marked, occurs, nowhere};
-ghost use Rattle.base.specs.Drafts.{drafted, Tied, Failed, Judged};
+ghost use Rattle.mesh.specs.Shape.{degree, edges};
+ghost use Rattle.base.specs.Drafts.{drafted, Failed, Judged};
 
 use crate::draft::Draft;
 use crate::sides::{count_at, count_uses, has_corner};
@@ -14,60 +13,6 @@ use refusal::{Fault, Refusal};
 use std::alloc::{AllocError, Global};
 
 const MOST_EDGES_AT_VERTEX: usize = 8;
-
-// For each of so many edges, whether it was named.
-fn mark_curves(heap: Global, count: usize, named: &[usize]) -> Result<Vec<bool>, AllocError>
-    ensures { IfOk result (λ v. v.items ≡ map (λ e. occurs e named.now) (range_with_len 0 count)) }
-{
-    let mut curves = Vec::new(heap);
-    for edge in 0..count {
-        curves.push(named.contains(&edge))?;
-    }
-    Ok(curves)
-}
-
-// The edges that are curves.
-pub(crate) fn marked_edges(
-    heap: Global,
-    edges: &[Side],
-    curves: &[bool],
-) -> Result<Vec<Side>, AllocError>
-    requires { length curves.now ≡ length edges.now }
-    ensures { IfOk result (λ v. v.items ≡ marked edges.now curves.now) }
-{
-    let mut out = Vec::new(heap);
-    for e in 0..edges.len() {
-        if curves[e] {
-            out.push(edges[e])?;
-        }
-    }
-    Ok(out)
-}
-
-// The lowest edge that has one face and is no curve.
-fn first_open_edge(edges: &[Side], sides: &[Side], curves: &[bool]) -> Option<usize>
-    requires { length curves.now ≡ length edges.now }
-    ensures { result ≡ lowest (λ e. (count_by (joins (slice_index_or edges.now e nowhere)) sides.now == 1) && not (slice_index_or curves.now e false)) (length edges.now) }
-{
-    for e in 0..edges.len() {
-        if count_uses(sides, edges[e]) == 1 && !curves[e] {
-            return Some(e);
-        }
-    }
-    None
-}
-
-// The lowest of so many vertices that lies in no face, or has too many edges.
-fn first_bad_valence(vertices: usize, edges: &[Side], sides: &[Side]) -> Option<usize>
-    ensures { result ≡ lowest (λ v. not (any (λ s. nat_eq s.tail v) sides.now) || nat_lt 8 (degree edges.now v)) vertices }
-{
-    for v in 0..vertices {
-        if !has_corner(sides, v) || count_at(edges, v) > MOST_EDGES_AT_VERTEX {
-            return Some(v);
-        }
-    }
-    None
-}
 
 fn dimension_fits(dimension: u8, curves: usize) -> bool
     ensures { result ≡ fits dimension curves }
@@ -83,29 +28,54 @@ fn dimension_fits(dimension: u8, curves: usize) -> bool
 fn first_bad_dimension(dims: &[u8], curve_edges: &[Side]) -> Option<usize>
     ensures { result ≡ lowest (λ v. not (fits (slice_index dims.now v) (degree curve_edges.now v))) (length dims.now) }
 {
-    for (v, dimension) in dims.iter().enumerate() {
-        if !dimension_fits(*dimension, count_at(curve_edges, v)) {
-            return Some(v);
-        }
-    }
-    None
+    dims.iter().enumerate().position(|(v, dimension)| !dimension_fits(
+        *dimension,
+        count_at(curve_edges, v),
+    ))
 }
 
-// The marks of the edges of a finished draft that keeps the rules.
-pub(crate) fn judge(heap: Global, draft: &Draft) -> Result<Vec<bool>, Fault>
-    requires { Tied draft.now }
-    ensures { MatchResult result (λ v. Judged draft.now v.items) (λ f. Failed f (checked (finished (drafted draft.now)))) }
-{
-    let curves = mark_curves(heap, draft.edges.len(), &draft.named)?;
-    if let Some(edge) = first_open_edge(&draft.edges, &draft.sides, &curves) {
-        return Err(Fault::Refused(Refusal::OpenEdge(edge)));
+impl Draft {
+    // For each edge, whether it was named.
+    fn mark_curves(&self, heap: Global) -> Result<Vec<bool>, AllocError>
+        ensures { IfOk result (λ v. v.items ≡ (finished (drafted self.now)).curves) }
+    {
+        (0..self.mesh.edges.len())
+            .map(|edge| self.has_named(edge))
+            .collect(heap)
     }
-    if let Some(vertex) = first_bad_valence(draft.dims.len(), &draft.edges, &draft.sides) {
-        return Err(Fault::Refused(Refusal::BadValence(vertex)));
+
+    // The lowest edge that has one face and was not named.
+    fn first_open_edge(&self) -> Option<usize>
+        ensures { result ≡ lowest (open_edge (finished (drafted self.now))) (length (edges (drafted self.now).faces)) }
+    {
+        let sides = self.mesh.sides.as_slice();
+        let mut edges = self.mesh.edges.iter().enumerate();
+        edges.position(|(e, edge)| count_uses(sides, *edge) == 1 && !self.has_named(e))
     }
-    let curve_edges = marked_edges(heap, &draft.edges, &curves)?;
-    if let Some(vertex) = first_bad_dimension(&draft.dims, &curve_edges) {
-        return Err(Fault::Refused(Refusal::BadDimension(vertex)));
+
+    // The lowest vertex that lies in no face, or has too many edges.
+    fn first_bad_valence(&self) -> Option<usize>
+        ensures { result ≡ lowest (bad_valence (finished (drafted self.now))) (length (drafted self.now).dims) }
+    {
+        (0..self.mesh.dims.len()).find(|v| !has_corner(&self.mesh.sides, *v)
+            || count_at(&self.mesh.edges, *v) > MOST_EDGES_AT_VERTEX)
     }
-    Ok(curves)
+
+    // The marks of the edges, once this draft is finished and keeps the rules.
+    pub(crate) fn judge(&self, heap: Global) -> Result<Vec<bool>, Fault>
+        ensures { MatchResult result (λ v. Judged self.now v.items) (λ f. Failed f (checked (finished (drafted self.now)))) }
+    {
+        if let Some(edge) = self.first_open_edge() {
+            return Err(Fault::Refused(Refusal::OpenEdge(edge)));
+        }
+        if let Some(vertex) = self.first_bad_valence() {
+            return Err(Fault::Refused(Refusal::BadValence(vertex)));
+        }
+        let curves = self.mark_curves(heap)?;
+        let curve_edges = self.mesh.marked_edges(heap, &curves)?;
+        if let Some(vertex) = first_bad_dimension(&self.mesh.dims, &curve_edges) {
+            return Err(Fault::Refused(Refusal::BadDimension(vertex)));
+        }
+        Ok(curves)
+    }
 }

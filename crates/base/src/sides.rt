@@ -1,80 +1,53 @@
 // Sides of faces and the edges that they run along: searches and counts.
-ghost use Rattle.std.specs.Prelude.{◌≡◌, count_by, nat_eq, nat_le};
-ghost use Rattle.mesh.specs.Shape.{any, joins, touches, edge_of, degree};
+ghost use Rattle.std.specs.Prelude.{◌≡◌, count_by, fold, nat_eq, nat_le, OnOk};
+ghost use Rattle.mesh.specs.Shape.{any, joins, edge_of, degree, with_side};
 
 use mesh::Side;
-
-// Whether the two run between the same two vertices.
-pub(crate) fn same_ends(a: Side, b: Side) -> bool
-    ensures { result ≡ joins a b }
-{
-    (a.tail == b.tail && a.head == b.head) || (a.tail == b.head && a.head == b.tail)
-}
-
-fn ends_at(side: Side, vertex: usize) -> bool
-    ensures { result ≡ touches vertex side }
-{
-    usize::from(side.tail) == vertex || usize::from(side.head) == vertex
-}
+use std::alloc::AllocError;
 
 // The number of the edge that runs between the ends of `side`.
 pub(crate) fn find_edge(edges: &[Side], side: Side) -> Option<usize>
     ensures { result ≡ edge_of edges.now side }
 {
-    for (i, edge) in edges.iter().enumerate() {
-        if same_ends(*edge, side) {
-            return Some(i);
-        }
-    }
-    None
+    edges.iter().position(|edge| edge.joins(side))
 }
 
 // How many of `sides` run along `edge`.
 pub(crate) fn count_uses(sides: &[Side], edge: Side) -> usize
     ensures { result ≡ count_by (joins edge) sides.now }
 {
-    let mut n = 0;
-    for side in sides {
-        if same_ends(edge, *side) {
-            n += 1;
-        }
-    }
-    n
+    sides.iter().filter(|side| edge.joins(**side)).count()
 }
 
 // How many of `edges` end at `vertex`.
 pub(crate) fn count_at(edges: &[Side], vertex: usize) -> usize
     ensures { result ≡ degree edges.now vertex }
 {
-    let mut n = 0;
-    for edge in edges {
-        if ends_at(*edge, vertex) {
-            n += 1;
-        }
-    }
-    n
+    edges.iter().filter(|edge| edge.ends_at(vertex)).count()
 }
 
 // Whether some face has a corner at `vertex`: each corner is the tail of one side.
 pub(crate) fn has_corner(sides: &[Side], vertex: usize) -> bool
     ensures { result ≡ any (λ s. nat_eq s.tail vertex) sides.now }
 {
-    for side in sides {
-        if usize::from(side.tail) == vertex {
-            return true;
-        }
-    }
-    false
+    sides.iter().any(|side| usize::from(side.tail) == vertex)
 }
 
 // Whether a side of `face` runs along an edge that has two faces already.
 pub(crate) fn has_full_edge(sides: &[Side], face: &[Side]) -> bool
     ensures { result ≡ any (λ s. nat_le 2 (count_by (joins s) sides.now)) face.now }
 {
-    for side in face {
-        if count_uses(sides, *side) >= 2 {
-            return true;
+    face.iter().any(|side| count_uses(sides, *side) >= 2)
+}
+
+// Numbers the edges along which `sides` are the first to run.
+pub(crate) fn number_edges(edges: &mut Vec<Side>, sides: &[Side]) -> Result<(), AllocError>
+    ensures { OnOk result (edges.new.items ≡ fold with_side edges.old.items sides.now) }
+{
+    for side in sides {
+        if find_edge(edges, *side).is_none() {
+            edges.push(*side)?;
         }
     }
-    false
+    Ok(())
 }

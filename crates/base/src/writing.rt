@@ -1,13 +1,11 @@
 // A base written as its records.
-ghost use Rattle.std.specs.Prelude.{◌≡◌, ◌≤◌, ◌++◌, map, length, IfOk, Ok, sum, OnOk};
-ghost use Rattle.std.specs.List.{flat_map, AllByRecursion};
+ghost use Rattle.std.specs.Prelude.{◌≡◌, ◌++◌, map, IfOk, Ok, OnOk};
+ghost use Rattle.std.specs.List.{flat_map};
 ghost use Rattle.mesh.specs.Reading.{reading};
 ghost use Rattle.mesh.specs.Records.{bytes_of, vertex, face, curve, two_bytes, written};
 ghost use Rattle.base.specs.Bases.{shape};
-ghost use Rattle.base.specs.Faces.{parts};
 
 use crate::base::Base;
-use crate::rules::marked_edges;
 use mesh::Side;
 use std::alloc::{AllocError, Global};
 
@@ -15,9 +13,7 @@ use std::alloc::{AllocError, Global};
 fn write_number(out: &mut Vec<u8>, number: u16) -> Result<(), AllocError>
     ensures { OnOk result (out.new.items ≡ out.old.items ++ two_bytes number) }
 {
-    out.push((number % 256) as u8)?;
-    out.push((number / 256) as u8)?;
-    Ok(())
+    out.extend_from_slice(&number.to_le_bytes())
 }
 
 fn write_vertices(out: &mut Vec<u8>, dims: &[u8]) -> Result<(), AllocError>
@@ -50,31 +46,29 @@ fn write_curves(out: &mut Vec<u8>, edges: &[Side]) -> Result<(), AllocError>
     Ok(())
 }
 
-fn write_faces(out: &mut Vec<u8>, sizes: &[usize], sides: &[Side]) -> Result<(), AllocError>
-    requires total { sum sizes.now ≡ length sides.now }
-    requires short { AllByRecursion (λ k. k ≤ 8) sizes.now }
-    ensures { OnOk result (out.new.items ≡ out.old.items ++ flat_map (λ f. bytes_of (face f)) (parts sizes.now sides.now)) }
-{
-    let mut rest = sides;
-    for size in sizes {
-        let (around, after) = rest.split_at(*size);
-        out.push(*size as u8)?;
-        write_corners(out, around)?;
-        rest = after;
-    }
-    Ok(())
-}
-
 impl Base {
+    fn write_faces(&self, out: &mut Vec<u8>) -> Result<(), AllocError>
+        ensures { OnOk result (out.new.items ≡ out.old.items ++ flat_map (λ f. bytes_of (face f)) (shape self.now).faces) }
+    {
+        let mut rest = self.mesh.sides.as_slice();
+        for size in &self.mesh.sizes {
+            let (around, after) = rest.split_at(*size);
+            out.push(*size as u8)?;
+            write_corners(out, around)?;
+            rest = after;
+        }
+        Ok(())
+    }
+
     // The records of this base: vertices, faces, curve edges in their order and direction, end.
     pub fn write(&self, heap: Global) -> Result<Vec<u8>, AllocError>
         ensures bytes { IfOk result (λ v. v.items ≡ written (shape self.now)) }
         ensures back { IfOk result (λ v. reading v.items ≡ Ok (shape self.now)) }
     {
         let mut out = Vec::new(heap);
-        let curves = marked_edges(heap, &self.edges, &self.curves)?;
-        write_vertices(&mut out, &self.dims)?;
-        write_faces(&mut out, &self.sizes, &self.sides)?;
+        let curves = self.mesh.marked_edges(heap, &self.curves)?;
+        write_vertices(&mut out, &self.mesh.dims)?;
+        self.write_faces(&mut out)?;
         write_curves(&mut out, &curves)?;
         out.push(0)?;
         Ok(out)

@@ -1,10 +1,9 @@
 -- Facts on lists that the shelf lacks. Assumes nothing.
 use Rattle.std.proofs.Common.{◌≡◌, ℕ, ◌+◌, ◌<◌, ◌≤◌, Bool, true, false, cond, not, ◌||◌, List, [], ◌∷◌, ◌++◌, map, length, get_or, fold, count_by, sym, refl, ap, ◌∙◌, ⊎_elim, arith}
-use mathlib.Core.Bool.{or_assoc}
-use Rattle.std.proofs.lemmas.List.{append_assoc, get_or_default, flat_map_more}
+use Rattle.std.proofs.lemmas.List.{append_assoc, flat_map_more}
+use Rattle.std.proofs.lemmas.List.Folds.{list_any-append, list_any_at}
 use Rattle.std.proofs.lemmas.List.Sums.{sum_by-cons}
 use Rattle.std.proofs.lemmas.Bool.{cases_Bool, true≢false, or_parts, or_from}
-use Rattle.std.proofs.lemmas.Bool.Decides.{Decides-by_or}
 use Rattle.std.specs.List.{flat_map, AllByRecursion}
 use Rattle.mesh.specs.Shape.{any}
 use Rattle.mesh.specs.Reading.{empty}
@@ -35,11 +34,10 @@ module _ {A : Type 0} (p : A → Bool) where
   all_fail (x ∷ xs) e = let both = or_parts (p x) (any p xs) e in (both.0, all_fail xs both.1)
 
   pub any_here : (xs : List A) (i : ℕ) (d : A) → i < length xs → p (get_or xs i d) ≡ true → any p xs ≡ true
-  any_here xs i d l t = (Decides-by_or p (λ x. p x ≡ true) (any p) (λ x. (λ e. e, λ e. e)) refl (λ _ _. refl) xs).1 (i, l, λ e. ap p (get_or_default xs i e d l) ∙ t)
+  any_here = list_any_at p
 
   pub any_append : (xs ys : List A) → any p (xs ++ ys) ≡ (any p xs || any p ys)
-  any_append [] ys = refl
-  any_append (x ∷ xs) ys = ap (λ b. p x || b) (any_append xs ys) ∙ sym (or_assoc (p x) (any p xs) (any p ys))
+  any_append = list_any-append p
 
   pub countBy_yes : (x : A) (xs : List A) → p x ≡ true → count_by p (x ∷ xs) ≡ 1 + count_by p xs
   countBy_yes x xs t = sum_by-cons (λ y. cond (p y) 1 0) x xs ∙ ap (λ b. cond b 1 0 + count_by p xs) t

@@ -56,3 +56,9 @@ module _ (p : ℕ → Bool) where
       let same : some.0 ≡ k = cc in
       subst (Found n) same some.1)
       (either n)
+
+-- tests that agree below n
+pub lowest_same : (p q : ℕ → Bool) (n : ℕ) → ((k : ℕ) → k < n → p k ≡ q k) → lowest p n ≡ lowest q n
+unfolding lowest
+lowest_same p q zero h = refl
+lowest_same p q (suc n) h = rw (lowest_same p q n (λ k l. h k (omega arith)), h n (omega arith))

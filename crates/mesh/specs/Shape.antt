@@ -1,7 +1,7 @@
 -- A base as a mesh of polygons: its vertices' dimensions, its faces' corners, and which of its edges are curves.
 -- Edges are not given but follow from the faces.
-use Rattle.std.specs.Prelude.{ℕ, Bool, true, false, cond, ◌&&◌, ◌||◌, List, [], ◌∷◌, ◌++◌, length, is_some, fold, count_by, Option, ◌==◌, nat_eq, slice_index_or}
-use Rattle.std.specs.List.{flat_map}
+use Rattle.std.specs.Prelude.{ℕ, Bool, true, cond, ◌&&◌, ◌||◌, List, [], ◌∷◌, ◌++◌, length, is_some, fold, count_by, Option, ◌==◌, nat_eq, slice_index_or}
+use Rattle.std.specs.List.{flat_map, list_any}
 use Rattle.mesh.specs.declared.Side.{Side}
 use Rattle.mesh.specs.Lowest.{lowest}
 
@@ -63,9 +63,9 @@ marked [] ms = []
 marked (e ∷ es) [] = []
 marked (e ∷ es) (m ∷ ms) = cond m (e ∷ marked es ms) (marked es ms)
 
+-- the library's test on some element, under the name that the definitions here use
 abbrev pub any : {A : Type 0} → (A → Bool) → List A → Bool
-any p [] = false
-any p (x ∷ xs) = p x || any p xs
+any p xs = list_any p xs
 
 abbrev pub occurs : ℕ → List ℕ → Bool
 occurs v xs = any (λ x. nat_eq x v) xs

@@ -5,7 +5,7 @@ use Rattle.refusal.specs.declared.Refusal.TheVariants.{TrailingByte}
 use Rattle.mesh.specs.Reading.{finished, checked, reading}
 use Rattle.mesh.proofs.ReadsWritings.{reads_writings}
 use Rattle.base.specs.Drafts.{drafted}
-use Rattle.base.specs.Faces.{shaped}
+use Rattle.base.specs.Meshes.{with_marks}
 use Rattle.base.proofs.Verdicts.{passed_on, stopped, trailed, whole}
 use Rattle.base.proofs.reading.read_base.Goals as goal
 use Rattle.base.proofs.reading.read_base.Goals.{After-judge, In_ok-curves}
@@ -19,11 +19,11 @@ pub returns-then-not-is_empty : goal.returns-then-not-is_empty
 returns-then-not-is_empty c =
     let left = c.in_ok-draft.ensures in
     let some : length c.in_ok-draft.rest.now ≡ 0 → ⊥ = eqb-false _ 0 (sym c.if-not-is_empty.ensures) in
-    trailed c.args.bytes.now (drafted c.in_ok-draft.draft) c.in_ok-draft.rest.now left.value (omega arith) ∙ ap (λ n. Err (TrailingByte n)) (sym c.saturating_sub.ensures)
+    trailed c.args.bytes.now (drafted c.in_ok-draft.draft) c.in_ok-draft.rest.now left (omega arith) ∙ ap (λ n. Err (TrailingByte n)) (sym c.saturating_sub.ensures)
 
 all_read : (c : After-judge) → reading c.args.bytes.now ≡ checked (finished (drafted c.in_ok-draft.draft))
 all_read c =
-    whole c.args.bytes.now (drafted c.in_ok-draft.draft) c.in_ok-draft.rest.now c.in_ok-draft.ensures.value (eqb-true _ 0 (sym c.if-not-is_empty.ensures))
+    whole c.args.bytes.now (drafted c.in_ok-draft.draft) c.in_ok-draft.rest.now c.in_ok-draft.ensures (eqb-true _ 0 (sym c.if-not-is_empty.ensures))
 
 pub returns-in_err-curves : goal.returns-in_err-curves
 returns-in_err-curves c =
@@ -31,22 +31,15 @@ returns-in_err-curves c =
     let same = all_read (goal.at.returns-in_err-curves c).After-judge in
     rw (p.1, p.2) (passed_on c.in_err-curves.field-0.0 _ _ (λ x e. same ∙ e) c.in_err-curves.ensures)
 
-given_shape : (c : In_ok-curves) → reading c.args.bytes.now ≡ checked (finished (drafted c.in_ok-draft.draft)) → reading c.args.bytes.now ≡ Ok (shaped (vec_items c.in_ok-draft.draft.dims) (vec_items c.in_ok-draft.draft.sizes) (vec_items c.in_ok-draft.draft.sides) (vec_items c.in_ok-curves.curves))
+given_shape : (c : In_ok-curves) → reading c.args.bytes.now ≡ checked (finished (drafted c.in_ok-draft.draft)) → reading c.args.bytes.now ≡ Ok (with_marks c.in_ok-draft.draft.mesh (vec_items c.in_ok-curves.curves))
 given_shape c same =
-    let m = c.in_ok-draft.draft in
     let judged = c.in_ok-curves.ensures in
-    same ∙ judged.passes ∙ ap (λ (marks : List Bool). Ok (shaped (vec_items m.dims) (vec_items m.sizes) (vec_items m.sides) marks)) (sym judged.marking)
+    same ∙ judged.passes ∙ ap (λ (marks : List Bool). Ok (with_marks c.in_ok-draft.draft.mesh marks)) (sym judged.marking)
 
 pub invariant_of-result : goal.invariant_of-result
 invariant_of-result c =
     let at = goal.at.invariant_of-result c in
-    let tied = c.in_ok-draft.ensures.tied in
-    record {
-      total = tied.total;
-      sided = tied.sided;
-      edged = tied.edged;
-      rules = ∣ (reads_writings c.args.bytes.now _ (given_shape at.In_ok-curves (all_read at.After-judge))).0 ∣₁;
-    }
+    record { rules = ∣ (reads_writings c.args.bytes.now _ (given_shape at.In_ok-curves (all_read at.After-judge))).0 ∣₁ }
 
 pub returns : goal.returns
 returns c =

@@ -1,16 +1,14 @@
-use Rattle.std.proofs.Common.{not, length, get_or, sym, ap, ◌∙◌, arith}
-use Rattle.mesh.proofs.Lowests.{lowest_some, lowest_none}
+use Rattle.std.proofs.Common.{rules, tests, ℕ, Bool, not, ◌∙◌}
+use Rattle.std.proofs.lemmas.Iterator.{YieldsList-from_slice}
+use Rattle.std.proofs.lemmas.Iterator.Consumers.{YieldsList-from_enumerate}
+use Rattle.std.proofs.lemmas.Iterator.Search.{position_from_yields_List}
 use Rattle.mesh.specs.Rules.{fits}
 use Rattle.mesh.specs.Shape.{degree}
+use Rattle.base.proofs.Searches.{lowest_numbered}
 use Rattle.base.proofs.rules.first_bad_dimension.Goals as goal
-
-pub returns-then-not-dimension_fits : goal.returns-then-not-dimension_fits
-returns-then-not-dimension_fits c =
-    let dims = c.args.dims.now in
-    let at = ap (λ n. fits (get_or dims c.loop-v.v 0) n) c.count_at.ensures in
-    sym (lowest_some (λ v. not (fits (get_or dims v 0) (degree c.args.curve_edges.now v))) (length dims) c.loop-v.v c.loop-v-test.true (ap not (sym at ∙ sym c.if-not-dimension_fits.ensures)) c.loop-v.invariant)
 
 pub returns : goal.returns
 returns c =
-    let dims = c.args.dims.now in
-    sym (lowest_none (λ v. not (fits (get_or dims v 0) (degree c.args.curve_edges.now v))) (length dims) (λ k l. c.loop-v.invariant k (omega arith)))
+    let bad : ℕ × ℕ → Bool = λ p. not (fits p.1 (degree c.args.curve_edges.now p.0)) in
+    position_from_yields_List bad _ _ c.position.result c.position.ensures.ran (YieldsList-from_enumerate (YieldsList-from_slice c.args.dims.now (cc)) (cc)) (λ x b q k. search (rules, tests))
+    ∙ lowest_numbered bad c.args.dims.now 0

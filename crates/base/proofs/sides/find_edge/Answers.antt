@@ -1,13 +1,11 @@
-use Rattle.std.proofs.Common.{length, get_or, sym, arith}
+use Rattle.std.proofs.Common.{rules, tests, ◌∙◌}
+use Rattle.std.proofs.lemmas.Iterator.{YieldsList-from_slice}
+use Rattle.std.proofs.lemmas.Iterator.Search.{position_from_yields_List}
 use Rattle.mesh.specs.Shape.{joins, nowhere}
-use Rattle.mesh.proofs.Lowests.{lowest_some, lowest_none}
+use Rattle.base.proofs.Searches.{lowest_position}
 use Rattle.base.proofs.sides.find_edge.Goals as goal
-
-pub returns-then-same_ends : goal.returns-then-same_ends
-returns-then-same_ends c =
-    sym (lowest_some (λ k. joins (get_or c.args.edges.now k nowhere) c.args.side) (length c.args.edges.now) c.loop-i.i
-    c.loop-i-test.true (sym c.if-same_ends.ensures) c.loop-i.invariant)
 
 pub returns : goal.returns
 returns c =
-    sym (lowest_none (λ k. joins (get_or c.args.edges.now k nowhere) c.args.side) (length c.args.edges.now) (λ k l. c.loop-i.invariant k (omega arith)))
+    let along = position_from_yields_List (λ edge. joins edge c.args.side) _ _ c.position.result c.position.ensures.ran (YieldsList-from_slice c.args.edges.now (cc)) (λ x b q k. search (rules, tests)) in
+    along ∙ lowest_position (λ edge. joins edge c.args.side) c.args.edges.now nowhere

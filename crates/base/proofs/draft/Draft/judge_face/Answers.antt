@@ -11,20 +11,20 @@ use Rattle.base.proofs.draft.Draft.judge_face.Goals as goal
 use Rattle.base.proofs.draft.Draft.judge_face.Goals.{After-len-2}
 
 module _ (c : After-len-2) where
-  known : bad_vertex (drafted c.args.self.now) (face c.args.corners.now) ≡ false
-  known = ap not (ap (λ n. proper n c.args.corners.now) (sym (c.len.ensures ∙ c.args.self.now.dims.ok.0)) ∙ sym c.are_proper.ensures ∙ c.if-not-are_proper.false)
+  known : bad_vertex (drafted c.args.self.now) (face (vec_items c.args.next.now.corners)) ≡ false
+  known = ap not (ap₂ proper (sym (c.len.ensures ∙ c.args.self.now.mesh.dims.ok.0)) (sym c.deref.ensures.value) ∙ sym c.are_proper.ensures ∙ c.if-not-are_proper.false)
 
-  room : third_face (drafted c.args.self.now) (face c.args.corners.now) ≡ false
-  room = ap₂ (λ ss fs. any (λ s. leb 2 (count_by (joins s) ss)) fs) (sym (c.deref.ensures.value ∙ c.requires.tied.sided)) (sym c.requires.round) ∙ sym c.if-has_full_edge.ensures
+  room : third_face (drafted c.args.self.now) (face (vec_items c.args.next.now.corners)) ≡ false
+  room = ap₂ (λ ss fs. any (λ s. leb 2 (count_by (joins s) ss)) fs) (sym (c.deref-2.ensures.value ∙ c.args.self.now.mesh.sided)) (sym (c.deref-3.ensures.value ∙ c.args.next.now.round)) ∙ sym c.if-has_full_edge.ensures
 
   faces : length (drafted c.args.self.now).faces ≡ c.len-2.result
-  faces = length_parts (vec_items c.args.self.now.sizes) (vec_items c.args.self.now.sides) ∙ sym (c.len-2.ensures ∙ c.args.self.now.sizes.ok.0)
+  faces = length_parts (vec_items c.args.self.now.mesh.sizes) (vec_items c.args.self.now.mesh.sides) ∙ sym (c.len-2.ensures ∙ c.args.self.now.mesh.sizes.ok.0)
 
 pub returns-then-len-ge-MOST_FACES : goal.returns-then-len-ge-MOST_FACES
 returns-then-len-ge-MOST_FACES c =
     let d = drafted c.args.self.now in
     let k = (goal.at.returns-then-len-ge-MOST_FACES c).After-len-2 in
-    row_many c.args.number d (face c.args.corners.now) (sym c.if-has_curves.ensures) (known k) refl (room k) (or_left (leb 256 (length d.faces)) _ (le-leb 256 (length d.faces) (omega (arith, faces k))))
+    row_many c.args.number d (face (vec_items c.args.next.now.corners)) (sym c.if-has_curves.ensures) (known k) refl (room k) (or_left (leb 256 (length d.faces)) _ (le-leb 256 (length d.faces) (omega (arith, faces k))))
 
 pub returns : goal.returns
 returns c =

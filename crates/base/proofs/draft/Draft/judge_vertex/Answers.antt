@@ -21,9 +21,9 @@ returns-then-dimension-gt2 c =
 pub returns-then-len-ge-MOST_VERTICES : goal.returns-then-len-ge-MOST_VERTICES
 returns-then-len-ge-MOST_VERTICES c =
     sym (row_many c.args.number (drafted c.args.self.now) (vertex c.args.dimension) (or_from _ _ (sym c.if-has_faces.ensures) (sym c.if-has_curves.ensures)) (le-ltb 2 _ c.if-dimension-gt2.false) refl refl
-    (le-leb 256 _ (omega (arith, c.args.self.now.dims.ok.0))))
+    (le-leb 256 _ (omega (arith, c.args.self.now.mesh.dims.ok.0))))
 
 pub returns : goal.returns
 returns c =
     sym (row_none c.args.number (drafted c.args.self.now) (vertex c.args.dimension) (or_from _ _ (sym c.if-has_faces.ensures) (sym c.if-has_curves.ensures)) (le-ltb 2 _ c.if-dimension-gt2.false) refl refl
-    (lt-leb 256 _ (omega (arith, c.args.self.now.dims.ok.0))))
+    (lt-leb 256 _ (omega (arith, c.args.self.now.mesh.dims.ok.0))))
