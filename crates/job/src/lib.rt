@@ -2,8 +2,9 @@
 #![tactic(auto)]
 
 ghost use Rattle.std.specs.Prelude.{◌≡◌, ℕ, List, ◌++◌, length, Some, codes};
-ghost use Rattle.job.specs.Lines.{view, view_command, first_and_rest, texts, sentence, Shorter, Holds};
-ghost use Rattle.job.specs.Meaning.{base, base_of, meaning, meaning_of};
+ghost use Rattle.std.specs.Iterator.{YieldsFirstRef, item_count};
+ghost use Rattle.job.specs.Lines.{view, view_command, sentence};
+ghost use Rattle.job.specs.Meaning.{base, base_of, meaning};
 ghost use Rattle.job.specs.Words.{words, Word, Cut};
 
 use std::fmt;
@@ -27,75 +28,54 @@ pub enum Complaint<'a> {
     WordCount { usage: &'static str, given: usize },
 }
 
-// So many words of a line are looked at: more than any command has, so that a word too many is seen.
-const KEPT: usize = 8;
-
 // What `line` says; nothing, if it is empty or a comment.
+#[tactic(auto, using(crate::proofs::Cuts::words_cut))]
 pub fn parse_line<'a>(line: &'a str) -> Result<Option<Command<'a>>, Complaint<'a>>
     ensures value { view result ≡ meaning (words line.now) }
     ensures cut { Cut line.now (words line.now) }
     ensures written { (file : List ℕ) → Word file → line.now ≡ codes "base " ++ file → view result ≡ base file }
 {
-    let mut room = [""; KEPT];
-    let count = split_words(line, &mut room);
-    parse_words(&room[0..count.min(KEPT)], count)
-}
-
-// What a line of `given` words says, of which the first are `kept`.
-fn parse_words<'a>(kept: &[&'a str], given: usize) -> Result<Option<Command<'a>>, Complaint<'a>>
-    ensures { view result ≡ meaning_of given (texts kept.now) }
-{
-    let [first, arguments @ ..] = kept else {
-        return Ok(None);
-    };
-    if first.starts_with('#') {
-        return Ok(None);
-    }
-    match *first {
-        "base" => Ok(Some(parse_base(arguments, given)?)),
-        _ => Err(Complaint::UnknownWord(first)),
+    let mut words = Words(line);
+    match words.next() {
+        None => Ok(None),
+        Some(word) if word.starts_with('#') => Ok(None),
+        Some("base") => Ok(Some(parse_base(line, words)?)),
+        Some(word) => Err(Complaint::UnknownWord(word)),
     }
 }
 
-fn parse_base<'a>(arguments: &[&'a str], given: usize) -> Result<Command<'a>, Complaint<'a>>
-    ensures { view_command result ≡ base_of given (texts arguments.now) }
+// What `line` says, of which the `arguments` come after the command.
+fn parse_base<'a>(line: &'a str, mut arguments: Words<'a>) -> Result<Command<'a>, Complaint<'a>>
+    ensures { view_command result ≡ base_of (length (words line.now)) (words arguments.entry.0.now) }
 {
-    let [file] = arguments else {
-        let usage = "base FILE";
-        return Err(Complaint::WordCount { usage, given });
-    };
-    Ok(Command::Base(file))
+    match (arguments.next(), arguments.next()) {
+        (Some(file), None) => Ok(Command::Base(file)),
+        _ => Err(Complaint::WordCount {
+            usage: "base FILE",
+            given: Words(line).count(),
+        }),
+    }
 }
 
-// Puts the first words of `line` into `room`, as many as it holds, and answers how many words there are.
-fn split_words<'a>(line: &'a str, room: &mut [&'a str]) -> usize
-    ensures count { result ≡ length (words line.now) }
-    ensures first { Holds (texts room.new) (words line.now) }
-{
-    let mut count = 0;
-    let mut rest = line;
-    while let Some((word, after)) = next_word(rest) {
-        if count < room.len() {
-            room[count] = word;
+// The words of a text that are still to come.
+#[derive(Drop)]
+struct Words<'a>(&'a str);
+
+impl<'a> Iterator for Words<'a> {
+    type Item = &'a str;
+
+    ghost next_gives = { YieldsFirstRef (λ s. words s.0.now) };
+
+    ghost remaining = { item_count (λ s. words s.0.now) };
+
+    fn next(&mut self) -> Option<&'a str> {
+        let start = self.0.trim_start_matches(' ');
+        if start.is_empty() {
+            return None;
         }
-        count += 1;
-        rest = after;
-    }
-    count
-}
-
-// The first word of `text`, and what comes after it.
-fn next_word<'a>(text: &'a str) -> Option<(&'a str, &'a str)>
-    ensures value { words text.now ≡ first_and_rest result }
-    ensures shorter { Shorter result text.now }
-{
-    let start = text.trim_start_matches(' ');
-    if start.is_empty() {
-        return None;
-    }
-    match start.split_once(' ') {
-        Some(parts) => Some(parts),
-        None => Some((start, "")),
+        let (word, rest) = start.split_once(' ').unwrap_or((start, ""));
+        self.0 = rest;
+        Some(word)
     }
 }
 

@@ -1,18 +1,18 @@
-use Rattle.std.proofs.Common.{◌≡◌, ap, ◌∙◌, rules}
-use Rattle.job.specs.Lines.{view}
-use Rattle.job.specs.Meaning.{meaning}
-use Rattle.job.specs.Words.{words}
-use Rattle.job.proofs.Cuts.{words_cut}
-use Rattle.job.proofs.Readings.{told_by_first, base_written}
+use Rattle.std.proofs.Common.{rules}
+use Rattle.job.proofs.Readings.{as_written}
 use Rattle.job.proofs.parse_line.Goals as goal
 
-pub returns : goal.returns
-returns c =
-    let line = c.args.line.now in
-    let split = c.split_words-count in
-    let told : view c.parse_words.result ≡ meaning (words line) = c.parse_words.ensures ∙ told_by_first split.result c.min.result split.new.room (words line) (search rules) split.ensures.count c.min.ensures split.ensures.first in
-    record {
-      value = told;
-      cut = words_cut line;
-      written = λ file w e. told ∙ ap (λ bs. meaning (words bs)) e ∙ base_written file w;
-    }
+pub returns-in_err-parse_base-in-Some-base-clause-written : goal.returns-in_err-parse_base-in-Some-base-clause-written
+returns-in_err-parse_base-in-Some-base-clause-written c = as_written c.args.line.now _ (search rules)
+
+pub returns-in-None-clause-written : goal.returns-in-None-clause-written
+returns-in-None-clause-written c = as_written c.args.line.now _ (search rules)
+
+pub returns-in-Some-clause-written : goal.returns-in-Some-clause-written
+returns-in-Some-clause-written c = as_written c.args.line.now _ (search rules)
+
+pub returns-in_ok-parse_base-in-Some-base-clause-written : goal.returns-in_ok-parse_base-in-Some-base-clause-written
+returns-in_ok-parse_base-in-Some-base-clause-written c = as_written c.args.line.now _ (search rules)
+
+pub returns-in-Some-2-clause-written : goal.returns-in-Some-2-clause-written
+returns-in-Some-2-clause-written c = as_written c.args.line.now _ (search rules)
