@@ -1,8 +1,6 @@
 -- The lines of the record, as bytes. Assumes nothing.
-use Rattle.std.specs.Prelude.{◌≡◌, ℕ, List, ◌++◌, Some, None, Ok, Err, codes, decimal, Option, Result}
-use Rattle.refusal.specs.Table.{row}
-use Rattle.refusal.specs.declared.Fault.{Fault}
-use Rattle.refusal.specs.declared.Fault.TheVariants.{Refused, Memory}
+use Rattle.std.specs.Prelude.{◌≡◌, ℕ, List, ◌++◌, Ok, Err, codes, decimal, Result}
+use Rattle.refusal.specs.Printed.{printed}
 use Rattle.refusal.specs.declared.Refusal.{Refusal}
 use Rattle.mesh.specs.Shape.{Shape}
 use Rattle.base.specs.Bases.{shape, counted}
@@ -13,13 +11,11 @@ abbrev pub base_read : Counts → List ℕ
 base_read n = codes "base " ++ (decimal n.vertices ++ (codes " " ++ (decimal n.edges ++ (codes " " ++ decimal n.faces))))
 
 abbrev pub base_refused : Refusal → List ℕ
-base_refused x = codes "base refused " ++ (decimal (row x).number ++ (codes " " ++ decimal (row x).value))
+base_refused x = codes "base " ++ printed x
 
--- want of memory has no line
-abbrev pub base_answer : Result Counts Fault → Option (List ℕ)
-base_answer (Ok n) = Some (base_read n)
-base_answer (Err (Refused x)) = Some (base_refused x)
-base_answer (Err Memory) = None
+abbrev pub base_line : Result Counts Refusal → List ℕ
+base_line (Ok n) = base_read n
+base_line (Err x) = base_refused x
 
 -- the line for the verdict on the bytes of a base
 abbrev pub base_entry : Result Shape Refusal → List ℕ

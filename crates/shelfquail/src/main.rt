@@ -28,10 +28,10 @@ ends it with status 1.";
 struct Failed;
 
 fn main(rt: HostRuntime) -> Result<(), Failed> {
-    let mut arguments = match env::args(&rt) {
-        Ok(arguments) => arguments,
-        Err(e) => return fail(&rt, format_args!("error: cannot read the arguments: {e}")),
-    };
+    let mut arguments = env::args(&rt).map_err(|e| fail(
+        &rt,
+        format_args!("error: cannot read the arguments: {e}"),
+    ))?;
     let _program = arguments.next();
     match (arguments.next(), arguments.next()) {
         (None, _) => run_input(&rt),
@@ -39,60 +39,54 @@ fn main(rt: HostRuntime) -> Result<(), Failed> {
             "-h" | "--help" => show_help(&rt),
             file => run_file(&rt, file),
         },
-        (Some(_), Some(_)) => fail(&rt, USAGE),
+        (Some(_), Some(_)) => Err(fail(&rt, USAGE)),
     }
 }
 
-fn fail(rt: &HostRuntime, message: impl Display + Drop) -> Result<(), Failed> {
+fn fail(rt: &HostRuntime, message: impl Display + Drop) -> Failed {
     let _ = rt.eprintln(message);
-    Err(Failed)
+    Failed
 }
 
 fn run_input(rt: &HostRuntime) -> Result<(), Failed> {
-    match io::read_to_string(rt.alloc(), rt.stdin()) {
-        Ok(job) => run_job(rt, job.as_str()),
-        Err(e) => fail(
+    let job = io::read_to_string(rt.alloc(), rt.stdin()).map_err(|e| {
+        fail(
             rt,
             format_args!("error: cannot read the job from standard input: {e}"),
-        ),
-    }
+        )
+    })?;
+    run_job(rt, job.as_str())
 }
 
 fn run_file(rt: &HostRuntime, file: &str) -> Result<(), Failed> {
-    match fs::read_to_string(rt, file) {
-        Ok(job) => run_job(rt, job.as_str()),
-        Err(e) => fail(rt, format_args!("error: cannot read the job {file}: {e}")),
-    }
+    let job = fs::read_to_string(rt, file).map_err(|e| fail(
+        rt,
+        format_args!("error: cannot read the job {file}: {e}"),
+    ))?;
+    run_job(rt, job.as_str())
 }
 
 fn show_help(rt: &HostRuntime) -> Result<(), Failed> {
-    match rt.println(HELP) {
-        Ok(()) => Ok(()),
-        Err(e) => fail(rt, format_args!("error: cannot print the help: {e}")),
-    }
+    rt.println(HELP).map_err(|e| fail(rt, format_args!("error: cannot print the help: {e}")))
 }
 
 // Does the lines one after the other, up to the first that is bad.
 fn run_job(rt: &HostRuntime, job: &str) -> Result<(), Failed> {
-    let Ok(mut session) = Session::start(rt.alloc()) else {
-        return fail(rt, "error: out of memory");
-    };
+    let mut session = Session::start(rt.alloc()).map_err(|_| fail(rt, "error: out of memory"))?;
     for (above, line) in job.lines().enumerate() {
-        if let Err(trouble) = run_line(rt, &mut session, line) {
-            let number = above + 1;
-            return fail(rt, format_args!("error line {number}: {trouble}"));
-        }
+        let number = above + 1;
+        run_line(rt, &mut session, line).map_err(|trouble| fail(
+            rt,
+            format_args!("error line {number}: {trouble}"),
+        ))?;
     }
     Ok(())
 }
 
 // Does what a line asks for, and prints what the record says of it.
 fn run_line<'a>(rt: &HostRuntime, session: &mut Session, line: &'a str) -> Result<(), Trouble<'a>> {
-    let Some(entry) = session.run(rt, line)? else {
-        return Ok(());
-    };
-    match rt.println(entry) {
-        Ok(()) => Ok(()),
-        Err(e) => Err(Trouble::Record(e)),
+    if let Some(entry) = session.run(rt, line)? {
+        rt.println(entry)?;
     }
+    Ok(())
 }

@@ -1,29 +1,28 @@
 // The lines of the record.
-ghost use Rattle.std.specs.Prelude.{◌≡◌, IfOk, Some, string_bytes};
-ghost use Rattle.shelfquail.specs.Record.{base_answer};
+ghost use Rattle.std.specs.Prelude.{Some};
+ghost use Rattle.shelfquail.specs.Record.{base_line};
 
 use base::Counts;
-use refusal::Fault;
-use std::alloc::{AllocError, Global};
+use refusal::Refusal;
+use std::fmt;
 
-// The line for what a reading of a base answered. For want of memory there is none.
-pub(crate) fn base_line(heap: Global, answer: Result<Counts, Fault>) -> Result<String, AllocError>
-    ensures { IfOk result (λ s. Some (string_bytes s) ≡ base_answer answer) }
-{
-    match answer {
-        Ok(counts) => {
-            let Counts {
-                vertices,
-                edges,
-                faces,
-            } = counts;
-            format!(in heap; "base {vertices} {edges} {faces}")
+// The line for a base that was to be read.
+#[derive(Drop)]
+pub(crate) struct BaseLine(pub(crate) Result<Counts, Refusal>);
+
+impl fmt::Display for BaseLine {
+    ghost output = { λ x. Some (base_line x.0) };
+
+    fn fmt<W: fmt::Write>(&self, f: &mut fmt::Formatter<W>) -> fmt::Result {
+        match self.0 {
+            Ok(
+                Counts {
+                    vertices,
+                    edges,
+                    faces,
+                },
+            ) => write!(f, "base {vertices} {edges} {faces}"),
+            Err(refusal) => write!(f, "base {refusal}"),
         }
-        Err(Fault::Refused(refusal)) => {
-            let number = refusal.number();
-            let value = refusal.value();
-            format!(in heap; "base refused {number} {value}")
-        }
-        Err(Fault::Memory) => Err(AllocError),
     }
 }

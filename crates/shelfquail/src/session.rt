@@ -1,17 +1,18 @@
 // A job at work: what its commands have made so far, and the lines that they add to the record.
-ghost use Rattle.std.specs.Prelude.{◌≡◌, IfOk, string_bytes, OnOk};
+ghost use Rattle.std.specs.Prelude.{◌≡◌, IfOk, OnOk, IsOkUnless};
 ghost use Rattle.base.specs.Bases.{shape};
 ghost use Rattle.mesh.specs.Reading.{reading};
 ghost use Rattle.mesh.specs.Shape.{starting};
 ghost use Rattle.job.specs.Meaning.{meaning};
 ghost use Rattle.job.specs.Words.{words};
-ghost use Rattle.shelfquail.specs.Record.{base_entry, Takes};
+ghost use Rattle.shelfquail.specs.Record.{base_line, base_entry, Takes};
 ghost use Rattle.shelfquail.specs.Said.{said, Follows, Stopped};
-ghost use Rattle.shelfquail.specs.declared.session.Trouble.TheVariants.{Line as Bad-line, Memory as No-memory};
+ghost use Rattle.shelfquail.specs.declared.session.Trouble.TheVariants.{Line as Bad-line, Record as Unwritten, Memory as No-memory};
 
-use crate::record::base_line;
+use crate::record::BaseLine;
 use base::Base;
 use job::{Command, Complaint, parse_line};
+use refusal::Fault;
 use std::alloc::{AllocError, Global};
 use std::{fmt, fs, io};
 
@@ -36,11 +37,12 @@ impl<'a> From<Complaint<'a>> for Trouble<'a> {
     }
 }
 
-impl From<AllocError> for Trouble<'_> {
-    ghost from_gives = { λ _ r. r ≡ No-memory };
+// The error of a write to the record. That of a file is kept with its name.
+impl From<io::Error> for Trouble<'_> {
+    ghost from_gives = { λ e r. r ≡ Unwritten e };
 
-    fn from(_e: AllocError) -> Self {
-        Trouble::Memory
+    fn from(e: io::Error) -> Self {
+        Trouble::Record(e)
     }
 }
 
@@ -75,7 +77,7 @@ impl Session {
         &mut self,
         rt: &HostRuntime,
         line: &'a str,
-    ) -> Result<Option<String>, Trouble<'a>>
+    ) -> Result<Option<BaseLine>, Trouble<'a>>
         ensures { Follows (meaning (words line.now)) result }
     {
         match parse_line(line)? {
@@ -84,20 +86,23 @@ impl Session {
         }
     }
 
-    fn run_base<'a>(&mut self, rt: &HostRuntime, file: &'a str) -> Result<String, Trouble<'a>>
+    fn run_base<'a>(&mut self, rt: &HostRuntime, file: &'a str) -> Result<BaseLine, Trouble<'a>>
         ensures { Stopped file.now result }
     {
-        match fs::read(rt, file) {
-            Ok(bytes) => Ok(self.read_base(rt.alloc(), &bytes)?),
-            Err(e) => Err(Trouble::File(file, e)),
-        }
+        let bytes = fs::read(rt, file).map_err(|e| Trouble::File(file, e))?;
+        self.read_base(rt.alloc(), &bytes)
     }
 
     // Takes the base that `bytes` spell, and answers the record's line for it.
-    fn read_base(&mut self, heap: Global, bytes: &[u8]) -> Result<String, AllocError>
-        ensures entry { IfOk result (λ s. string_bytes s ≡ base_entry (reading bytes.now)) }
+    fn read_base<'a>(&mut self, heap: Global, bytes: &[u8]) -> Result<BaseLine, Trouble<'a>>
+        ensures entry { IfOk result (λ line. base_line line.0 ≡ base_entry (reading bytes.now)) }
         ensures taken { OnOk result (Takes (reading bytes.now) self.old.base self.new.base) }
+        ensures memory { IsOkUnless result No-memory }
     {
-        base_line(heap, self.base.read(heap, bytes))
+        match self.base.read(heap, bytes) {
+            Ok(counts) => Ok(BaseLine(Ok(counts))),
+            Err(Fault::Refused(refusal)) => Ok(BaseLine(Err(refusal))),
+            Err(Fault::Memory) => Err(Trouble::Memory),
+        }
     }
 }
