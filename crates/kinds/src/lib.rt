@@ -5,7 +5,6 @@ mod kind;
 mod marks;
 mod pair;
 mod point;
-mod point_kind;
 #[cfg(test)]
 mod tests;
 

@@ -5,7 +5,7 @@ ghost use Rattle.kinds.specs.MarkSums.{differing, unmarked, marks_laws, flag, ex
 use crate::kind::ValueKind;
 
 #[repr(C)]
-#[derive(Clone, Copy)]
+#[derive(Clone, Copy, PartialEq, Eq, Debug)]
 pub struct Marks {
     // 32 of them: flag k is set where 2^k has its part in the number
     pub flags: u32,

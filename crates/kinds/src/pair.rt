@@ -4,7 +4,7 @@ ghost use Rattle.kinds.specs.PairSums.{pair, both, each, pair_laws};
 
 use crate::kind::ValueKind;
 
-#[derive(Clone, Copy)]
+#[derive(Clone, Copy, PartialEq, Eq, Debug)]
 pub struct Pair<A, B> {
     pub first: A,
     pub second: B,

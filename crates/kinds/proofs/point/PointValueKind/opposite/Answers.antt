@@ -5,7 +5,7 @@ use Rattle.kinds.specs.Residues.{residue}
 use Rattle.kinds.specs.PointSums.{same_point}
 use Rattle.kinds.proofs.Points.{modulo_of}
 use Rattle.kinds.proofs.Wrapping.{neg_residue}
-use Rattle.kinds.proofs.point_kind.PointValueKind.opposite.Goals as goal
+use Rattle.kinds.proofs.point.PointValueKind.opposite.Goals as goal
 
 -- what goes into a call and comes out of it is read back from its bits
 coordinate : (a : ℤ) {r : ℤ} → mag a < 2 ^ 31 → SFits w32 r → r ≡ to_z w32 ((2 ^ 32 - of_z w32 (to_z w32 (of_z w32 a))) % 2 ^ 32) → to_z w32 (of_z w32 r) ≡ residue (neg_ℤ a)

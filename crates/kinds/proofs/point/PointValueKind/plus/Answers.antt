@@ -1,7 +1,7 @@
 use Rattle.kinds.specs.PointSums.{same_point}
 use Rattle.kinds.proofs.Points.{modulo_of}
 use Rattle.kinds.proofs.Wrapping.{add_residue}
-use Rattle.kinds.proofs.point_kind.PointValueKind.plus.Goals as goal
+use Rattle.kinds.proofs.point.PointValueKind.plus.Goals as goal
 
 pub returns : goal.returns
 returns c =

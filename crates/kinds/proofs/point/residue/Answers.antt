@@ -2,7 +2,7 @@ use Rattle.std.proofs.Common.{◌-◌, ◌^◌, ap, ◌∙◌, w32, w64, to_z, o
 use lib.Bits.{bit_and}
 use Rattle.std.proofs.lemmas.Int.{to_z-of_z}
 use Rattle.kinds.proofs.Wrapping.{low_residue}
-use Rattle.kinds.proofs.point_kind.residue.Goals as goal
+use Rattle.kinds.proofs.point.residue.Goals as goal
 
 pub returns : goal.returns
 returns c =
