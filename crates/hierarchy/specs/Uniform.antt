@@ -1,12 +1,12 @@
 -- A hierarchy is uniform if each level below the finest has no curve edge and only vertices of dimension 2,
 -- or no face and only vertices of dimension 1.
-use Rattle.std.specs.Prelude.{ℕ, zero, suc, Bool, true, not, ◌&&◌, ◌||◌, ◌==◌, nat_eq}
+use Rattle.std.specs.Prelude.{ℕ, Bool, not, ◌&&◌, ◌||◌, ◌==◌, nat_eq}
+use Rattle.std.specs.List.{list_all, range_with_len}
 use Rattle.hierarchy.specs.Meaning.{Meaning}
 
 -- each number below n passes
 abbrev pub every : (ℕ → Bool) → ℕ → Bool
-every p zero = true
-every p (suc n) = p n && every p n
+every p n = list_all p (range_with_len 0 n)
 
 abbrev pub smooth_edges : Meaning → ℕ → Bool
 smooth_edges m j = every (λ e. not (m.curve j e)) (m.edges j)

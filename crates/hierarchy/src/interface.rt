@@ -66,6 +66,7 @@ pub trait Hierarchy {
     fn is_curve(&self, level: usize, edge: usize) -> bool
         ensures { result ≡ (meaning self.now).curve level edge };
 
+    // A number and no enum: it is counted as one, and past the level's vertices it is 0.
     fn dimension(&self, level: usize, vertex: usize) -> u8
         ensures { result ≡ (meaning self.now).dimension level vertex };
 }

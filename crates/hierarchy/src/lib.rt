@@ -4,9 +4,11 @@
 mod interface;
 mod limits;
 mod link;
+mod members;
 mod uniform;
 
 pub use interface::Hierarchy;
 pub use limits::has_levels;
 pub use link::Link;
+pub use members::{Members, members_of};
 pub use uniform::is_uniform;

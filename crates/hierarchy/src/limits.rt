@@ -5,5 +5,5 @@ ghost use Rattle.hierarchy.specs.Limits.{has_levels};
 pub fn has_levels(levels: usize) -> bool
     ensures { result ≡ has_levels levels }
 {
-    1 <= levels && levels <= 5
+    (1..=5).contains(&levels)
 }

@@ -1,5 +1,5 @@
 // The six relations of a level's topology: what is listed of an edge, a face or a vertex.
-#[derive(Clone, Copy, Debug)]
+#[derive(Clone, Copy, PartialEq, Eq, Debug)]
 pub enum Link {
     EdgeEnds,
     EdgeFaces,

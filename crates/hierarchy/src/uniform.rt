@@ -8,24 +8,14 @@ use crate::interface::Hierarchy;
 fn no_curves<H: Hierarchy>(h: &H, level: usize) -> bool
     ensures { result ≡ smooth_edges (H.meaning h.now) level }
 {
-    for edge in 0..h.edges(level) {
-        if h.is_curve(level, edge) {
-            return false;
-        }
-    }
-    true
+    (0..h.edges(level)).all(|edge| !h.is_curve(level, edge))
 }
 
 // Whether all vertices of the level have this dimension.
 fn all_have<H: Hierarchy>(h: &H, level: usize, dimension: u8) -> bool
     ensures { result ≡ all_of_dimension (H.meaning h.now) level dimension }
 {
-    for vertex in 0..h.vertices(level) {
-        if h.dimension(level, vertex) != dimension {
-            return false;
-        }
-    }
-    true
+    (0..h.vertices(level)).all(|vertex| h.dimension(level, vertex) == dimension)
 }
 
 fn is_uniform_level<H: Hierarchy>(h: &H, level: usize) -> bool
@@ -37,10 +27,5 @@ fn is_uniform_level<H: Hierarchy>(h: &H, level: usize) -> bool
 pub fn is_uniform<H: Hierarchy>(h: &H) -> bool
     ensures { result ≡ uniform (H.meaning h.now) }
 {
-    for level in 0..h.levels() {
-        if !is_uniform_level(h, level) {
-            return false;
-        }
-    }
-    true
+    (0..h.levels()).all(|level| is_uniform_level(h, level))
 }
