@@ -4,9 +4,12 @@ use Rattle.refusal.specs.declared.Refusal.{Refusal}
 use Rattle.refusal.specs.declared.Refusal.TheVariants.{CurveSize, LevelCount}
 use Rattle.hierarchy.specs.Meaning.{Meaning}
 use Rattle.levels.specs.Level.{Level}
+use Rattle.hierarchy.specs.Limits.{has_levels}
 use Rattle.levels.specs.Curves.{curve_level}
+use Rattle.levels.specs.Finer.{level}
 use Rattle.levels.specs.Incidence.{hierarchy}
 use Rattle.curve.specs.declared.curve.Curve.{Curve}
+use Rattle.curve.specs.declared.level.CurveLevel.{CurveLevel}
 
 -- its coarsest level, and the hierarchy over it
 abbrev pub coarsest : Curve → Level
@@ -15,12 +18,18 @@ coarsest c = curve_level c.closed c.points
 abbrev pub means : Curve → Meaning
 means c = hierarchy (coarsest c) c.levels
 
+-- a level as it follows from the coarsest
+abbrev pub level_at : CurveLevel → Level
+level_at l = level (coarsest l.curve.now) l.level
+
+-- that it is the level j of a curve
+pub record LevelOf (c : Curve) (j : ℕ) (l : CurveLevel) : Type 0 where
+  pub same_curve : l.curve.now ≡ c
+  pub same_level : l.level ≡ j
+
 -- a closed curve has 3 to 1024 points, an open one 2 to 1024, and either has 1 to 5 levels
 abbrev pub has_size : Bool → ℕ → Bool
 has_size closed points = nat_le (cond closed 3 2) points && nat_le points 1024
-
-abbrev pub has_levels : ℕ → Bool
-has_levels levels = nat_le 1 levels && nat_le levels 5
 
 -- why no curve is made; the number of points is judged first
 abbrev pub refused : Bool → ℕ → ℕ → Option Refusal

@@ -1,7 +1,7 @@
 // The type of a curve. Its ghost fields are what every curve keeps.
 ghost use Rattle.std.specs.Prelude.{◌≤◌, if◌then◌else◌};
 
-#[derive(Clone, Copy, Debug)]
+#[derive(Clone, Copy, PartialEq, Eq, Debug)]
 pub struct Curve {
     // how many points the coarsest level has
     pub(crate) points: usize,

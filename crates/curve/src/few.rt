@@ -1,4 +1,5 @@
 // At most two numbers, ascending: what any relation lists along a curve.
+// An enum of its own: an Option of a pair has no place for one number alone, and an array with a count holds numbers past that count.
 ghost use Rattle.std.specs.Prelude.{◌≡◌, length, slice_index};
 ghost use Rattle.curve.specs.Listed.{listed};
 

@@ -3,6 +3,7 @@
 
 mod curve;
 mod few;
+mod level;
 mod making;
 mod numbering;
 mod questions;

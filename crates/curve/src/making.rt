@@ -1,8 +1,9 @@
 // Making a curve, or saying why there is none.
 ghost use Rattle.std.specs.Prelude.{◌≡◌, ◌≤◌};
-ghost use Rattle.curve.specs.Made.{Making, means, has_size, has_levels};
+ghost use Rattle.curve.specs.Made.{Making, means, has_size};
 
 use crate::curve::Curve;
+use hierarchy::{Hierarchy, has_levels};
 use refusal::Refusal;
 
 // Whether a curve may have so many points.
@@ -10,13 +11,7 @@ fn has_size(points: usize, closed: bool) -> bool
     ensures { result ≡ has_size closed points }
 {
     let least = if closed { 3 } else { 2 };
-    least <= points && points <= 1024
-}
-
-fn has_levels(levels: usize) -> bool
-    ensures { result ≡ has_levels levels }
-{
-    1 <= levels && levels <= 5
+    (least..=1024).contains(&points)
 }
 
 impl Curve {
@@ -42,6 +37,6 @@ impl Curve {
         ensures value { result ≡ (means self.now).vertices self.now.levels }
         ensures few { result ≤ 32768 }
     {
-        self.vertex_count(self.levels)
+        self.places()
     }
 }

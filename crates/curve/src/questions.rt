@@ -1,27 +1,26 @@
 // A curve's answers to the questions of a hierarchy.
 ghost use Rattle.std.specs.Prelude.{◌≡◌, ◌≤◌};
 ghost use Rattle.hierarchy.specs.declared.link.Link.TheVariants.{EdgeEnds, VertexEdges};
-ghost use Rattle.levels.specs.Finer.{level as level_of};
 ghost use Rattle.levels.specs.Incidence.{incident};
 ghost use Rattle.levels.proofs.CurveLawful.{curve_lawful};
 ghost use Rattle.curve.specs.Listed.{listed};
-ghost use Rattle.curve.specs.Made.{coarsest, means};
+ghost use Rattle.curve.specs.Made.{coarsest, means, level_at};
 
 use crate::curve::Curve;
 use crate::few::Few;
+use crate::level::CurveLevel;
 use hierarchy::{Hierarchy, Link};
 
-impl Curve {
+impl CurveLevel<'_> {
     // The two ends of an edge: the vertices at its position and the one after it.
-    fn ends(&self, level: usize, edge: usize) -> Few
-        requires { level ≤ 5 }
-        ensures { listed result ≡ incident (level_of (coarsest self.now) level) EdgeEnds edge }
+    fn ends(self, edge: usize) -> Few
+        ensures { listed result ≡ incident (level_at self.entry) EdgeEnds edge }
     {
-        if edge >= self.edge_count(level) {
+        if edge >= self.edges() {
             return Few::Nothing;
         }
-        let tail = self.numbered(level, edge);
-        let head = self.numbered(level, self.next_position(level, edge));
+        let tail = self.numbered(edge);
+        let head = self.numbered(self.next_position(edge));
         if tail < head {
             Few::Two(tail, head)
         } else {
@@ -30,17 +29,16 @@ impl Curve {
     }
 
     // The edges of a vertex: those before and after its position.
-    fn edges_of(&self, level: usize, vertex: usize) -> Few
-        requires { level ≤ 5 }
-        ensures { listed result ≡ incident (level_of (coarsest self.now) level) VertexEdges vertex }
+    fn edges_of(self, vertex: usize) -> Few
+        ensures { listed result ≡ incident (level_at self.entry) VertexEdges vertex }
     {
-        if vertex >= self.vertex_count(level) {
+        if vertex >= self.vertices() {
             return Few::Nothing;
         }
-        let last = self.edge_count(level) - 1;
-        let position = self.placed(level, vertex);
+        let last = self.edges() - 1;
+        let position = self.placed(vertex);
         if position == 0 {
-            return if self.closed {
+            return if self.curve.closed {
                 Few::Two(0, last)
             } else {
                 Few::One(0)
@@ -51,23 +49,9 @@ impl Curve {
         }
         Few::Two(position - 1, position)
     }
+}
 
-    // What a relation lists; nothing at the finest level and past it.
-    fn found(&self, level: usize, link: Link, of: usize) -> Few
-        ensures { listed result ≡ (means self.now).list level link of }
-    {
-        if level >= self.levels {
-            return Few::Nothing;
-        }
-        match link {
-            Link::EdgeEnds => self.ends(level, of),
-            Link::VertexEdges => self.edges_of(level, of),
-            Link::EdgeFaces | Link::FaceVertices | Link::FaceEdges | Link::VertexFaces => {
-                Few::Nothing
-            }
-        }
-    }
-
+impl Curve {
     // The dimension on the coarsest level: 0 at the ends of an open curve. Every level keeps it, and no later vertex is an end.
     fn coarse_dimension(&self, vertex: usize) -> u8
         ensures { result ≡ (coarsest self.now).dimension vertex }
@@ -94,19 +78,11 @@ impl Hierarchy for Curve {
     }
 
     fn vertices(&self, level: usize) -> usize {
-        if level > self.levels {
-            0
-        } else {
-            self.vertex_count(level)
-        }
+        self.at(level).map_or(0, |here| here.vertices())
     }
 
     fn edges(&self, level: usize) -> usize {
-        if level > self.levels {
-            0
-        } else {
-            self.edge_count(level)
-        }
+        self.at(level).map_or(0, |here| here.edges())
     }
 
     fn faces(&self, _level: usize) -> usize {
@@ -114,7 +90,16 @@ impl Hierarchy for Curve {
     }
 
     fn list(&self, level: usize, link: Link, of: usize) -> Few {
-        self.found(level, link, of)
+        let Some(here) = self.refined(level) else {
+            return Few::Nothing;
+        };
+        match link {
+            Link::EdgeEnds => here.ends(of),
+            Link::VertexEdges => here.edges_of(of),
+            Link::EdgeFaces | Link::FaceVertices | Link::FaceEdges | Link::VertexFaces => {
+                Few::Nothing
+            }
+        }
     }
 
     fn list_length(&self, list: Few) -> usize {
@@ -126,13 +111,13 @@ impl Hierarchy for Curve {
     }
 
     fn is_curve(&self, level: usize, edge: usize) -> bool {
-        level < self.levels && edge < self.edge_count(level)
+        self.refined(level).is_some_and(|here| edge < here.edges())
     }
 
     fn dimension(&self, level: usize, vertex: usize) -> u8 {
-        if level >= self.levels || vertex >= self.vertex_count(level) {
-            return 0;
+        match self.refined(level) {
+            Some(here) if vertex < here.vertices() => self.coarse_dimension(vertex),
+            _ => 0,
         }
-        self.coarse_dimension(vertex)
     }
 }

@@ -1,8 +1,9 @@
-use Rattle.std.proofs.Common.{ltb, ap, ◌∙◌}
+use Rattle.std.proofs.Common.{arith}
+use Rattle.std.proofs.lemmas.Grind.{common_steps}
 use Rattle.curve.proofs.Faceless.{marked}
 use Rattle.curve.proofs.questions.CurveHierarchy.is_curve.Goals as goal
 
-pub returns-then-level-self : goal.returns-then-level-self
-returns-then-level-self c =
+pub returns : goal.returns
+returns c =
     let it = c.args.self.now in
-    ap (ltb c.args.edge) c.edge_count.ensures.value ∙ marked it.closed it.points it.levels c.args.level c.args.edge c.if-level-self.true
+    grind (arith, common_steps, marked it.closed it.points it.levels c.args.level c.args.edge)

@@ -1,5 +1,5 @@
 use Rattle.curve.proofs.Faceless.{no_face_listed}
-use Rattle.curve.proofs.curve.Curve.found.Goals as goal
+use Rattle.curve.proofs.questions.CurveHierarchy.list.Goals as goal
 
 pub returns-in-EdgeFaces : goal.returns-in-EdgeFaces
 returns-in-EdgeFaces c =
