@@ -1,20 +1,19 @@
 -- A step with factor 0 adds nothing.
-use Rattle.std.proofs.Common.{◌≡◌, ℕ, ◌≤◌, eqb, ℤ, pos, ◌*ℤ◌, nat_abs, sym, ap, ◌∙◌, ⊎_elim, arith, w64, of_z}
+use Rattle.std.proofs.Common.{◌≡◌, ℕ, ◌≤◌, eqb, ℤ, pos, ◌*ℤ◌, nat_abs, ap, ◌∙◌, arith, w64, of_z}
 use lib.IntN.{zero-*ℤ}
 use Rattle.std.proofs.lemmas.Int.{ints}
-use Rattle.std.proofs.lemmas.Bool.{cond_both, cases_eq, eq-eqb, ne_eqb}
+use Rattle.std.proofs.lemmas.Bool.{cond_both}
 use Rattle.kinds.specs.PointSums.{origin}
 use Rattle.kinds.specs.declared.point.Point.{Point}
 use Rattle.schemes.specs.declared.steps.Class.{Class}
 use Rattle.schemes.specs.declared.steps.Class.TheVariants.{Vertex, Edge, Face}
 use Rattle.schemes.specs.declared.steps.Step.{Step}
 use Rattle.schemes.specs.declared.steps.Step.TheVariants.{First, Second, Third}
-use Rattle.schemes.specs.Equations.{by_one, by_two, s_lift, w_lift, lift, rests, Means, means}
+use Rattle.schemes.specs.Equations.{by_one, by_two, s_lift, w_lift, lift, Means, means}
 use Rattle.schemes.specs.Fractions.{Fraction, Same, Worth, whole, ◌⊕◌, ◌⊗◌}
 use Rattle.schemes.specs.PointAmounts.{point_amount}
 use Rattle.schemes.specs.Readings.{Reads, parts}
 use Rattle.schemes.specs.Rounding.{rounded}
-use Rattle.schemes.proofs.Products.{same_over}
 use Rattle.schemes.proofs.Roundings.{rounded_same, rounded_whole}
 use Rattle.schemes.proofs.Zeros.{zero_point}
 
@@ -59,19 +58,5 @@ unmoved factor s c d q w =
     let e : (factor s).over ≡ pos 0 = omega (arith, ints) in
     zero_point _ _ _ (lift_null factor s c d (means (parts (λ p. p.x) q)) e) (lift_null factor s c d (means (parts (λ p. p.y) q)) e) (lift_null factor s c d (means (parts (λ p. p.z) q)) e)
 
--- whether a factor is 0 is seen from its sixteenths
-zero_alike : (m n : ℕ) → (m ≡ 0 → n ≡ 0) → (n ≡ 0 → m ≡ 0) → eqb m 0 ≡ eqb n 0
-zero_alike m n f g = ⊎_elim (λ e. eq-eqb m 0 e ∙ sym (eq-eqb n 0 (f e))) (λ o. ne_eqb m 0 o ∙ sym (ne_eqb n 0 (λ e. o (g e)))) (cases_eq m 0)
-
-none_over : (a : Fraction) (k : ℤ) → Worth a k 16 → a.over ≡ pos 0 → k ≡ pos 0
-none_over a k w e = same_over k (pos 0) a.under a.positive (sym w ∙ ap (λ z. z *ℤ pos 16) e ∙ sym (zero-*ℤ (pos a.under)))
-
 pub stored_zero : (k : ℤ) → nat_abs k ≤ 16 → of_z w64 k ≡ 0 → k ≡ pos 0
 stored_zero k h e = omega (arith, ints)
-
-pub rests_by : (factor : Step → Fraction) (s : Step) (k : ℤ) → nat_abs k ≤ 16 → Worth (factor s) k 16 → eqb (of_z w64 k) 0 ≡ rests factor s
-rests_by factor s k h w =
-    let a = factor s in
-    zero_alike (of_z w64 k) (nat_abs a.over)
-    (λ e. let z : k ≡ pos 0 = stored_zero k h e in let v : Worth a (pos 0) 16 = rw z at w in omega (arith, ints))
-    (λ e. let z : a.over ≡ pos 0 = omega (arith, ints) in let y : k ≡ pos 0 = none_over a k w z in omega (arith, ints))

@@ -2,12 +2,14 @@
 use Rattle.std.specs.Prelude.{◌≡◌, ℕ, List, map, length, ℤ}
 use Rattle.kinds.specs.PointSums.{modulo}
 use Rattle.kinds.specs.declared.point.Point.{Point}
+use Rattle.schemes.specs.declared.mean.Centroid.{Centroid}
+use Rattle.schemes.specs.declared.mean.Mean.{Mean}
 use Rattle.schemes.specs.declared.point_sum.PointSum.{PointSum}
 use Rattle.schemes.specs.declared.steps.Class.{Class}
 use Rattle.schemes.specs.declared.steps.Step.{Step}
 use Rattle.schemes.specs.declared.tally.Tally.{Tally}
 use Rattle.schemes.specs.Equations.{lift, means}
-use Rattle.schemes.specs.Fractions.{Fraction, total}
+use Rattle.schemes.specs.Fractions.{Fraction, Worth, total, mean}
 use Rattle.schemes.specs.Readings.{Reads, parts}
 use Rattle.schemes.specs.Rounding.{rounded}
 
@@ -27,6 +29,16 @@ pub record Tallied (t : Tally) (ps : List Point) : Type 0 where
   pub by_x : t.x ≡ total (map (λ p. p.x) ps)
   pub by_y : t.y ≡ total (map (λ p. p.y) ps)
   pub by_z : t.z ≡ total (map (λ p. p.z) ps)
+
+-- the mean is that of these numbers
+abbrev Averages : Mean → List ℤ → Type 0
+Averages m ns = Worth (mean ns) m.sum m.count
+
+-- the centroid is that of these points
+pub record Centred (c : Centroid) (ps : List Point) : Type 0 where
+  pub by_x : Averages c.x (map (λ p. p.x) ps)
+  pub by_y : Averages c.y (map (λ p. p.y) ps)
+  pub by_z : Averages c.z (map (λ p. p.z) ps)
 
 -- the sum is of these points
 pub record Summed (s : PointSum) (q : Reads Point) : Type 0 where

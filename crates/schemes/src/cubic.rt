@@ -1,59 +1,28 @@
 // The cubic scheme: a = −1/4, −1 and 3/16. It needs a uniform hierarchy.
-ghost use Rattle.std.specs.Prelude.{◌≡◌, ◌≤◌, true, unsigned_abs};
-ghost use Rattle.schemes.specs.Equations.{cubic, rests};
-ghost use Rattle.schemes.specs.Fractions.{Worth};
-ghost use Rattle.schemes.specs.PointAmounts.{Summed, point_amount};
+ghost use Rattle.std.specs.Prelude.{true};
+ghost use Rattle.schemes.specs.Equations.{cubic};
 
-use crate::point_sum::PointSum;
-use crate::scheme::Scheme;
-use crate::spline::{spline_amount, spline_rests};
-use crate::steps::{Class, Step};
-use kinds::Point;
+use crate::factor::{Factor, Factors};
+use crate::steps::Step;
 
-#[derive(Clone, Copy)]
+#[derive(Clone, Copy, PartialEq, Eq, Debug)]
 pub struct Cubic;
 
-// The factor of a step, in sixteenths.
-fn sixteenths(step: Step) -> i64
-    ensures { (unsigned_abs result ≤ 16) × Worth (cubic step) result 16 }
-{
-    match step {
-        Step::First => -4,
-        Step::Second => -16,
-        Step::Third => 3,
-    }
-}
+impl Factors for Cubic {
+    ghost factor = { λ _. cubic };
 
-impl Scheme for Cubic {
-    type Value = Point;
+    ghost uniform_only = { λ _. true };
 
-    type Sum = PointSum;
-
-    ghost holds = { Summed };
-
-    ghost amount = { λ _. point_amount cubic };
-
-    ghost uniform = { λ _. true };
-
-    ghost idle = { λ _. rests cubic };
-
-    fn start(&self) -> PointSum {
-        PointSum::empty()
+    fn factor(&self, step: Step) -> Factor {
+        let sixteenths = match step {
+            Step::First => -4,
+            Step::Second => -16,
+            Step::Third => 3,
+        };
+        Factor { sixteenths }
     }
 
-    fn gather(&self, sum: PointSum, class: Class, value: Point) -> PointSum {
-        sum.with(class, value)
-    }
-
-    fn amount(&self, step: Step, class: Class, dimension: u8, sum: PointSum) -> Point {
-        spline_amount(sixteenths(step), step, class, dimension, sum)
-    }
-
-    fn needs_uniform(&self) -> bool {
+    fn uniform_only(&self) -> bool {
         true
-    }
-
-    fn is_idle(&self, step: Step) -> bool {
-        spline_rests(sixteenths(step), step)
     }
 }

@@ -4,8 +4,10 @@
 mod both;
 mod cubic;
 mod equations;
+mod factor;
 mod linear;
 mod marks_scheme;
+mod mean;
 mod point_sum;
 mod rounding;
 mod scheme;
@@ -17,6 +19,7 @@ mod tests;
 
 pub use both::Both;
 pub use cubic::Cubic;
+pub use factor::{Factor, Factors};
 pub use linear::Linear;
 pub use marks_scheme::{MarksScheme, MarksSum};
 pub use point_sum::PointSum;

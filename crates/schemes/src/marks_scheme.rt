@@ -3,21 +3,56 @@ ghost use Rattle.std.specs.Prelude.{◌≡◌, ℕ, false};
 ghost use Rattle.kinds.specs.MarkSums.{flag};
 ghost use Rattle.kinds.specs.declared.marks.Marks.{Marks};
 ghost use Rattle.schemes.specs.MarkAmounts.{Marked, marks_amount, marks_rest, in_common, adds_flag};
-ghost use Rattle.schemes.specs.Readings.{Reads, more};
+ghost use Rattle.schemes.specs.Readings.{Reads, none_read, more};
 ghost use Rattle.schemes.specs.declared.steps.Class.TheVariants.{Vertex};
 
 use crate::scheme::Scheme;
 use crate::steps::{Class, Step};
 use kinds::{Marks, ValueKind};
 
-#[derive(Clone, Copy)]
+#[derive(Clone, Copy, PartialEq, Eq, Debug)]
 pub struct MarksScheme;
 
 // How many vertices were gathered, and the flags that they have in common: all flags, of no vertex.
+// No `Option` of the flags, since the count is wanted all the same: a ninth vertex is passed over.
 #[derive(Clone, Copy)]
 pub struct MarksSum {
     count: u32,
     common: u32,
+}
+
+impl MarksSum {
+    fn empty() -> MarksSum
+        ensures { Marked result none_read }
+    {
+        MarksSum {
+            count: 0,
+            common: u32::MAX,
+        }
+    }
+
+    // A ninth vertex is passed over.
+    fn with(self, value: Marks) -> MarksSum
+        ensures { (q : Reads Marks) → Marked self q → Marked result (more Vertex value q) }
+    {
+        if self.count >= 8 {
+            return self;
+        }
+        MarksSum {
+            count: self.count + 1,
+            common: self.common & value.flags,
+        }
+    }
+
+    // No flag, of no vertex.
+    fn in_common(self) -> Marks
+        ensures { (q : Reads Marks) → Marked self q → result ≡ in_common q.vertices }
+    {
+        if self.count == 0 {
+            return Marks::zero();
+        }
+        Marks { flags: self.common }
+    }
 }
 
 impl Scheme for MarksScheme {
@@ -34,17 +69,13 @@ impl Scheme for MarksScheme {
     ghost idle = { λ _. marks_rest };
 
     fn start(&self) -> MarksSum {
-        MarksSum {
-            count: 0,
-            common: 0xffff_ffff,
-        }
+        MarksSum::empty()
     }
 
     fn gather(&self, sum: MarksSum, class: Class, value: Marks) -> MarksSum {
         match class {
-            Class::Vertex => shared_with(sum, value),
-            Class::Edge => sum,
-            Class::Face => sum,
+            Class::Vertex => sum.with(value),
+            Class::Edge | Class::Face => sum,
         }
     }
 
@@ -53,9 +84,8 @@ impl Scheme for MarksScheme {
         ensures flags { (q : Reads Marks) (k : ℕ) → Marked sum q → flag result k ≡ adds_flag step k q.vertices }
     {
         match step {
-            Step::First => Marks::zero(),
-            Step::Second => in_common(sum),
-            Step::Third => Marks::zero(),
+            Step::First | Step::Third => Marks::zero(),
+            Step::Second => sum.in_common(),
         }
     }
 
@@ -64,33 +94,6 @@ impl Scheme for MarksScheme {
     }
 
     fn is_idle(&self, step: Step) -> bool {
-        match step {
-            Step::First => true,
-            Step::Second => false,
-            Step::Third => true,
-        }
+        step != Step::Second
     }
-}
-
-// A ninth vertex is passed over.
-fn shared_with(sum: MarksSum, value: Marks) -> MarksSum
-    ensures { (q : Reads Marks) → Marked sum q → Marked result (more Vertex value q) }
-{
-    if sum.count >= 8 {
-        return sum;
-    }
-    MarksSum {
-        count: sum.count + 1,
-        common: sum.common & value.flags,
-    }
-}
-
-// No flag, of no vertex.
-fn in_common(sum: MarksSum) -> Marks
-    ensures { (q : Reads Marks) → Marked sum q → result ≡ in_common q.vertices }
-{
-    if sum.count == 0 {
-        return Marks::zero();
-    }
-    Marks { flags: sum.common }
 }

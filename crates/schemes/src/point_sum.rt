@@ -1,8 +1,8 @@
 // The running sum of the points read, by class.
-ghost use Rattle.std.specs.Prelude.{◌≡◌, List};
+ghost use Rattle.std.specs.Prelude.{◌≡◌};
 ghost use Rattle.kinds.specs.declared.point.Point.{Point};
-ghost use Rattle.schemes.specs.PointAmounts.{Tallied, Summed};
-ghost use Rattle.schemes.specs.Readings.{Reads, none_read, more, joined_by};
+ghost use Rattle.schemes.specs.PointAmounts.{Summed};
+ghost use Rattle.schemes.specs.Readings.{Reads, none_read, more};
 
 use crate::steps::Class;
 use crate::tally::Tally;
@@ -32,26 +32,17 @@ impl PointSum {
     {
         match class {
             Class::Vertex => PointSum {
-                vertices: tallied(self.vertices, p),
-                edges: self.edges,
-                faces: self.faces,
+                vertices: self.vertices.with(p),
+                ..self
             },
             Class::Edge => PointSum {
-                vertices: self.vertices,
-                edges: tallied(self.edges, p),
-                faces: self.faces,
+                edges: self.edges.with(p),
+                ..self
             },
             Class::Face => PointSum {
-                vertices: self.vertices,
-                edges: self.edges,
-                faces: tallied(self.faces, p),
+                faces: self.faces.with(p),
+                ..self
             },
         }
     }
-}
-
-fn tallied(tally: Tally, p: Point) -> Tally
-    ensures { (ps : List Point) → Tallied tally ps → Tallied result (joined_by ps p) }
-{
-    tally.with(p)
 }

@@ -35,6 +35,7 @@ pub trait Scheme {
     fn gather(&self, sum: Self::Sum, class: Class, value: Self::Value) -> Self::Sum
         ensures { (q : Reads Self.Value) → holds sum q → holds result (more class value q) };
 
+    // A dimension is any number here, since an enum of three would ask more of a caller.
     fn amount(&self, step: Step, class: Class, dimension: u8, sum: Self::Sum) -> Self::Value
         ensures { (q : Reads Self.Value) → holds sum q → result ≡ amount self.now step class dimension q };
 

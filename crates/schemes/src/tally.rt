@@ -1,23 +1,29 @@
-// The running sum of points of one class. Its contracts cite no definition that is made over this type.
-ghost use Rattle.std.specs.Prelude.{◌≡◌, ◌+◌, ◌*◌, ◌^◌, ◌<◌, ◌≤◌, pos, ◌+ℤ◌, unsigned_abs};
+// The running sum of points of one class.
+ghost use Rattle.std.specs.Prelude.{◌*◌, ◌^◌, ◌≤◌, unsigned_abs};
 
+use crate::mean::{Centroid, Mean};
 use kinds::Point;
 
 // How many points were gathered, and the sum of each coordinate.
 #[derive(Clone, Copy)]
 pub(crate) struct Tally {
-    pub(crate) count: u32,
-    pub(crate) x: i64,
-    pub(crate) y: i64,
-    pub(crate) z: i64,
+    count: u32,
+    x: i64,
+    y: i64,
+    z: i64,
     ghost few: { count ≤ 8 },
     // so no sum overflows, whatever was gathered
     ghost small: { (unsigned_abs x ≤ count * 2 ^ 31) × (unsigned_abs y ≤ count * 2 ^ 31) × (unsigned_abs z ≤ count * 2 ^ 31) },
 }
 
 impl Tally {
+    ghost use Rattle.std.specs.Prelude.{List, []};
+    ghost use Rattle.kinds.specs.declared.point.Point.{Point};
+    ghost use Rattle.schemes.specs.PointAmounts.{Tallied, Centred};
+    ghost use Rattle.schemes.specs.Readings.{joined_by};
+
     pub(crate) fn empty() -> Tally
-        ensures { (result.count ≡ 0) × (result.x ≡ pos 0) × (result.y ≡ pos 0) × (result.z ≡ pos 0) }
+        ensures { Tallied result [] }
     {
         Tally {
             count: 0,
@@ -29,9 +35,7 @@ impl Tally {
 
     // A ninth point is passed over.
     pub(crate) fn with(self, p: Point) -> Tally
-        ensures counted { self.count < 8 → result.count ≡ self.count + 1 }
-        ensures summed { self.count < 8 → (result.x ≡ self.x +ℤ p.x) × (result.y ≡ self.y +ℤ p.y) × (result.z ≡ self.z +ℤ p.z) }
-        ensures full { 8 ≤ self.count → result ≡ self }
+        ensures { (ps : List Point) → Tallied self ps → Tallied result (joined_by ps p) }
     {
         if self.count >= 8 {
             return self;
@@ -41,6 +45,18 @@ impl Tally {
             x: self.x + i64::from(p.x),
             y: self.y + i64::from(p.y),
             z: self.z + i64::from(p.z),
+        }
+    }
+
+    // That of no points is 0 over 1.
+    pub(crate) fn centroid(self) -> Centroid
+        ensures { (ps : List Point) → Tallied self ps → Centred result ps }
+    {
+        let count = self.count.max(1);
+        Centroid {
+            x: Mean { sum: self.x, count },
+            y: Mean { sum: self.y, count },
+            z: Mean { sum: self.z, count },
         }
     }
 }

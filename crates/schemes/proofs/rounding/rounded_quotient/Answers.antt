@@ -6,14 +6,11 @@ use Rattle.schemes.proofs.Roundings.{rounding_laws}
 use Rattle.schemes.proofs.Sizes.{held, stored_is}
 use Rattle.schemes.proofs.rounding.rounded_quotient.Goals as goal
 
-pub returns-then-under-eq0 : goal.returns-then-under-eq0
-returns-then-under-eq0 c = record { value = c.if-under-eq0.true; laws = rounding_laws }
+pub returns-then-under-eq0-clause-laws : goal.returns-then-under-eq0-clause-laws
+returns-then-under-eq0-clause-laws c = rounding_laws
 
-pub returns : goal.returns
-returns c =
+pub returns-clause-value : goal.returns-clause-value
+returns-clause-value c =
     let same = stored_is c.round.result c.round.type_inv in
     let over : held c.from.result ≡ c.args.over = stored_is c.from.result c.from.type_inv ∙ c.from.ensures ∙ omega (arith, ints, c.ranges.over.sfits) in
-    record {
-      value = (omega (arith, c.if-under-eq0.false), λ q w. let v = subst₂ (λ n d. Worth q n d) (sym over) (sym c.from-2.ensures) w in (same ∙ c.round.ensures.value q v, subst (Rounds q) (sym same) (c.round.ensures.rounds q v)));
-      laws = rounding_laws;
-    }
+    (omega (arith, c.if-under-eq0.false), λ q w. let v = subst₂ (λ n d. Worth q n d) (sym over) (sym c.from-2.ensures) w in (same ∙ c.round.ensures.value q v, subst (Rounds q) (sym same) (c.round.ensures.rounds q v)))
