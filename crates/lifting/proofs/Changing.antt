@@ -1,5 +1,5 @@
 -- What a half step leaves, place by place, also while it is under way.
-use Rattle.std.proofs.Common.{◌≡◌, ℕ, ◌+◌, ◌-◌, ◌<◌, ◌≤◌, true, cond, List, [], ◌∷◌, map, length, get_or, set, sym, refl, ap, ◌∙◌, inl, inr, ⊎_elim, arith, length-set}
+use Rattle.std.proofs.Common.{◌≡◌, ℕ, ◌+◌, ◌-◌, ◌<◌, ◌≤◌, true, cond, List, [], ◌∷◌, ◌++◌, map, length, get_or, set, sym, refl, ap, ◌∙◌, inl, inr, ⊎_elim, arith, length-set}
 use Rattle.std.specs.List.{range_with_len, AllByRecursion}
 use Rattle.std.proofs.lemmas.List.FromFn.{length-map-range_with_len, get_or-map-range_with_len}
 use Rattle.std.proofs.lemmas.List.{get_or_past, get_or-set_same, get_or-set_other, ext_get_or}
@@ -47,6 +47,14 @@ half_at m r way j s vs p d l = get_or-map-range_with_len (changed_at m r way s.0
 pub length_halves : {V : Type 0} (m : Meaning) (r : Rule V) (way : Way) (j : ℕ) (ss : List (Step × Class)) (vs : List V) → length (halves m r way j ss vs) ≡ length vs
 length_halves m r way j [] vs = refl
 length_halves m r way j (s ∷ ss) vs = length_halves m r way j ss (half m r way j s vs) ∙ length_half m r way j s vs
+
+pub halves_append : {V : Type 0} (m : Meaning) (r : Rule V) (way : Way) (j : ℕ) (ss ts : List (Step × Class)) (vs : List V) → halves m r way j (ss ++ ts) vs ≡ halves m r way j ts (halves m r way j ss vs)
+halves_append m r way j [] ts vs = refl
+halves_append m r way j (s ∷ ss) ts vs = halves_append m r way j ss ts (half m r way j s vs)
+
+-- one half step more
+pub one_more : {V : Type 0} (m : Meaning) (r : Rule V) (way : Way) (j : ℕ) (made : List (Step × Class)) (s : Step × Class) (before : List V) {now after : List V} → now ≡ halves m r way j made before → after ≡ half m r way j s now → after ≡ halves m r way j (made ++ s ∷ []) before
+one_more m r way j made s before is-now is-after = is-after ∙ ap (half m r way j s) is-now ∙ sym (halves_append m r way j made (s ∷ []) before)
 
 module _ {V : Type 0} (m : Meaning) (r : Rule V) (way : Way) (step : Step) (j : ℕ) (c : Class) (n : ℕ) (vs : List V) where
   pub length_partly : length (partly m r way step j c n vs) ≡ length vs

@@ -1,5 +1,5 @@
 -- A half step and the one back leave the values as they were, and so do all half steps of a level and the way back.
-use Rattle.std.proofs.Common.{◌≡◌, ℕ, ◌-◌, ◌<◌, Bool, true, false, cond, List, [], ◌∷◌, ◌++◌, reverse, length, get_or, refl, ap, ◌∙◌, le_refl, arith}
+use Rattle.std.proofs.Common.{◌≡◌, ℕ, ◌-◌, ◌<◌, Bool, true, false, cond, List, [], ◌∷◌, reverse, length, get_or, refl, ap, ◌∙◌, le_refl, arith}
 use mathlib.Core.List.{reverse-cons}
 use Rattle.std.proofs.lemmas.List.{ext_get_or}
 use Rattle.hierarchy.specs.Meaning.{Meaning}
@@ -13,7 +13,7 @@ use Rattle.lifting.specs.declared.way.Way.TheVariants.{Down, Up}
 use Rattle.lifting.specs.Places.{count_of, first_place, in_run}
 use Rattle.lifting.specs.HalfSteps.{Rule, on_the_way, amount_at, changed_at, half, halves, lifts, analysed, synthesised}
 use Rattle.lifting.specs.Travel.{Undone}
-use Rattle.lifting.proofs.Changing.{partly, length_partly, partly_at, same_amount}
+use Rattle.lifting.proofs.Changing.{halves_append, partly, length_partly, partly_at, same_amount}
 
 abbrev back : Way → Way
 back Down = Up
@@ -61,15 +61,11 @@ module _ {V : Type 0} (m : Meaning) (r : Rule V) (lawful : Lawful m) (group : Gr
         (long' ∙ long)
         (λ p l. partly_at m r (back w) step j c (count_of m j c) there p r.zero (omega arith) ∙ place_undone p (omega arith))
 
-  halves_append : (w : Way) (ss ts : List (Step × Class)) (vs : List V) → halves m r w j (ss ++ ts) vs ≡ halves m r w j ts (halves m r w j ss vs)
-  halves_append w [] ts vs = refl
-  halves_append w (s ∷ ss) ts vs = halves_append w ss ts (half m r w j s vs)
-
   pub halves_undone : (w : Way) (ss : List (Step × Class)) (vs : List V) → halves m r (back w) j (reverse ss) (halves m r w j ss vs) ≡ vs
   halves_undone w [] vs = refl
   halves_undone w (s ∷ ss) vs =
       let one = half m r w j s vs in
-      ap (λ ts. halves m r (back w) j ts (halves m r w j ss one)) (reverse-cons s ss) ∙ halves_append (back w) (reverse ss) (s ∷ []) (halves m r w j ss one)
+      ap (λ ts. halves m r (back w) j ts (halves m r w j ss one)) (reverse-cons s ss) ∙ halves_append m r (back w) j (reverse ss) (s ∷ []) (halves m r w j ss one)
       ∙ ap (half m r (back w) j s) (halves_undone w ss one) ∙ half_undone w s.0 s.1 vs
 
   pub level_undone : Undone m r j

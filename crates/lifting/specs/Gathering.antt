@@ -1,5 +1,5 @@
 -- What the code hands round while the values read are gathered.
-use Rattle.std.specs.Prelude.{◌≡◌, ℕ, ◌+◌, ◌<◌, Bool, true, false, List, filter}
+use Rattle.std.specs.Prelude.{◌≡◌, ℕ, ◌+◌, ◌^◌, ◌<◌, Bool, List, []}
 use Rattle.hierarchy.specs.Meaning.{Meaning}
 use Rattle.hierarchy.specs.declared.link.Link.{Link}
 use Rattle.hierarchy.specs.declared.link.Link.TheVariants.{EdgeEnds, EdgeFaces, FaceVertices, FaceEdges, VertexEdges, VertexFaces}
@@ -30,13 +30,16 @@ target_class FaceEdges = Edge
 target_class VertexEdges = Edge
 target_class VertexFaces = Face
 
--- those on a curve alone, or all
-abbrev pub chosen : Bool → (ℕ → Bool) → List ℕ → List ℕ
-chosen true curve ns = filter curve ns
-chosen false curve ns = ns
-
 -- these values read in the place of those of one class
 abbrev pub with_read : {V : Type 0} → Class → List V → Reads V → Reads V
 with_read Vertex xs q = record { vertices = xs; edges = q.edges; faces = q.faces }
 with_read Edge xs q = record { vertices = q.vertices; edges = xs; faces = q.faces }
 with_read Face xs q = record { vertices = q.vertices; edges = q.edges; faces = xs }
+
+-- a question about numbers is answered as this test answers it, at every number that can be asked
+abbrev pub Tells : (ℕ → Bool → Type 0) → (ℕ → Bool) → Type 0
+Tells answers test = (n : ℕ) (b : Bool) → n < 2 ^ 64 → answers n b → b ≡ test n
+
+-- a sum that held none of a class holds these of it, whatever it holds of the others
+abbrev pub Gathered : {V U : Type 0} → (U → Reads V → Type 0) → Class → List V → U → U → Type 0
+Gathered {V} holds c xs start sum = (q : Reads V) → holds start (with_read c [] q) → holds sum (with_read c xs q)

@@ -65,3 +65,8 @@ analysed m r j vs = halves m r Down j lifts vs
 -- from depth j to depth j + 1: the last half step first
 unfoldable pub synthesised : {V : Type 0} → Meaning → Rule V → ℕ → List V → List V
 synthesised m r j vs = halves m r Up j (reverse lifts) vs
+
+-- a level, either way
+abbrev pub crossed : {V : Type 0} → Meaning → Rule V → Way → ℕ → List V → List V
+crossed m r Down j vs = analysed m r j vs
+crossed m r Up j vs = synthesised m r j vs

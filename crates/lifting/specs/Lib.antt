@@ -5,4 +5,3 @@ pub mod HalfSteps
 pub mod Travel
 pub mod Calls
 pub mod IntegerLifting
-pub mod Splines

@@ -5,7 +5,8 @@ ghost use Rattle.lifting.specs.Gathering.{Laid};
 ghost use Rattle.lifting.specs.HalfSteps.{rule, on_the_way, half};
 
 use crate::layout::Layout;
-use crate::reading::{amount, first};
+use crate::reading::{Points, first};
+use crate::transform::Transform;
 use crate::way::Way;
 use hierarchy::Hierarchy;
 use kinds::ValueKind;
@@ -34,7 +35,8 @@ fn count<H: Hierarchy>(h: &H, level: usize, class: Class) -> usize
     }
 }
 
-// The value with the amount added on the right, or on the way up with its opposite.
+// The value with the amount added on the right, or on the way up with its opposite: the laws of a half step speak of the way, so a
+// closure in its place would only hide it.
 fn changed<V: ValueKind>(value: V, way: Way, amount: V) -> V
     ensures { result ≡ V.ValueKind.plus value (on_the_way V.ValueKind.opposite way amount) }
 {
@@ -52,26 +54,24 @@ fn add_at<V: ValueKind>(values: &mut [V], place: usize, way: Way, amount: V)
     values[place] = changed(old, way, amount);
 }
 
-pub(crate) fn change<H: Hierarchy, S: Scheme>(
-    h: &H,
-    s: &S,
-    values: &mut [S::Value],
-    way: Way,
-    step: Step,
-    level: usize,
-    class: Class,
-)
-    requires level { level < (H.meaning h.now).levels }
-    requires whole { length values.old ≡ (H.meaning h.now).vertices (H.meaning h.now).levels }
-    ensures { values.new ≡ half (H.meaning h.now) (rule S.Scheme S.Value.ValueKind s.now) way level (step, class) values.old }
-{
-    if s.is_idle(step) {
-        return;
-    }
-    let at = layout(h, level);
-    let from = first(at, class);
-    for number in 0..count(h, level, class) {
-        let added = amount(h, s, values, at, step, class, number);
-        add_at(values, from + number, way, added);
+impl<'a, H: Hierarchy, S: Scheme> Transform<'a, H, S> {
+    pub(crate) fn change(&mut self, way: Way, step: Step, level: usize, class: Class)
+        requires { level < (H.meaning self.old.h.now).levels }
+        ensures kept { (self.new.h ≡ self.old.h) × (self.new.s ≡ self.old.s) × (self.new.values.ghost_name ≡ self.old.values.ghost_name) }
+        ensures values { self.new.values.now ≡ half (H.meaning self.old.h.now) (rule S.Scheme S.Value.ValueKind self.old.s.now) way level (step, class) self.old.values.now }
+    {
+        let h = self.h;
+        let s = self.s;
+        let values = &mut *self.values;
+        if s.is_idle(step) {
+            return;
+        }
+        let at = layout(h, level);
+        let from = first(at, class);
+        for number in 0..count(h, level, class) {
+            let points = Points { h, s, values, at };
+            let added = points.amount(step, class, number);
+            add_at(values, from + number, way, added);
+        }
     }
 }

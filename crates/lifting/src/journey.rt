@@ -5,43 +5,47 @@ ghost use Rattle.lifting.specs.Travel.{descended, climbed, travelled, Straight, 
 ghost use Rattle.lifting.specs.Calls.{between_depths, unless_refused};
 
 use crate::checks::check_depths;
-use crate::levels::{analyse, synthesise};
+use crate::transform::Transform;
+use crate::way::Way;
 use hierarchy::Hierarchy;
 use refusal::Refusal;
 use schemes::Scheme;
 
-fn descend<H: Hierarchy, S: Scheme>(h: &H, s: &S, values: &mut [S::Value], from: usize, to: usize)
-    requires depth { from ≤ (H.meaning h.now).levels }
-    requires down { to ≤ from }
-    requires whole { length values.old ≡ (H.meaning h.now).vertices (H.meaning h.now).levels }
-    ensures { values.new ≡ descended (H.meaning h.now) (rule S.Scheme S.Value.ValueKind s.now) from to values.old }
-{
-    for level in (to..from).rev() {
-        analyse(h, s, values, level);
+impl<'a, H: Hierarchy, S: Scheme> Transform<'a, H, S> {
+    // Two functions with `climb`: the levels are crossed in opposite orders, and each has its own definition.
+    fn descend(&mut self, from: usize, to: usize)
+        requires depth { from ≤ (H.meaning self.old.h.now).levels }
+        requires down { to ≤ from }
+        ensures kept { (self.new.h ≡ self.old.h) × (self.new.s ≡ self.old.s) × (self.new.values.ghost_name ≡ self.old.values.ghost_name) }
+        ensures values { self.new.values.now ≡ descended (H.meaning self.old.h.now) (rule S.Scheme S.Value.ValueKind self.old.s.now) from to self.old.values.now }
+    {
+        for level in (to..from).rev() {
+            self.cross(Way::Down, level);
+        }
     }
-}
 
-fn climb<H: Hierarchy, S: Scheme>(h: &H, s: &S, values: &mut [S::Value], from: usize, to: usize)
-    requires depth { to ≤ (H.meaning h.now).levels }
-    requires up { from ≤ to }
-    requires whole { length values.old ≡ (H.meaning h.now).vertices (H.meaning h.now).levels }
-    ensures { values.new ≡ climbed (H.meaning h.now) (rule S.Scheme S.Value.ValueKind s.now) from to values.old }
-{
-    for level in from..to {
-        synthesise(h, s, values, level);
+    fn climb(&mut self, from: usize, to: usize)
+        requires depth { to ≤ (H.meaning self.old.h.now).levels }
+        requires up { from ≤ to }
+        ensures kept { (self.new.h ≡ self.old.h) × (self.new.s ≡ self.old.s) × (self.new.values.ghost_name ≡ self.old.values.ghost_name) }
+        ensures values { self.new.values.now ≡ climbed (H.meaning self.old.h.now) (rule S.Scheme S.Value.ValueKind self.old.s.now) from to self.old.values.now }
+    {
+        for level in from..to {
+            self.cross(Way::Up, level);
+        }
     }
-}
 
-fn go<H: Hierarchy, S: Scheme>(h: &H, s: &S, values: &mut [S::Value], from: usize, to: usize)
-    requires from { from ≤ (H.meaning h.now).levels }
-    requires to { to ≤ (H.meaning h.now).levels }
-    requires whole { length values.old ≡ (H.meaning h.now).vertices (H.meaning h.now).levels }
-    ensures { values.new ≡ travelled (H.meaning h.now) (rule S.Scheme S.Value.ValueKind s.now) from to values.old }
-{
-    if to <= from {
-        descend(h, s, values, from, to);
-    } else {
-        climb(h, s, values, from, to);
+    fn go(&mut self, from: usize, to: usize)
+        requires from { from ≤ (H.meaning self.old.h.now).levels }
+        requires to { to ≤ (H.meaning self.old.h.now).levels }
+        ensures kept { (self.new.h ≡ self.old.h) × (self.new.s ≡ self.old.s) × (self.new.values.ghost_name ≡ self.old.values.ghost_name) }
+        ensures values { self.new.values.now ≡ travelled (H.meaning self.old.h.now) (rule S.Scheme S.Value.ValueKind self.old.s.now) from to self.old.values.now }
+    {
+        if to <= from {
+            self.descend(from, to);
+        } else {
+            self.climb(from, to);
+        }
     }
 }
 
@@ -59,6 +63,6 @@ pub fn travel<H: Hierarchy, S: Scheme>(
     ensures returned { Returned (H.meaning h.now) (rule S.Scheme S.Value.ValueKind s.now) }
 {
     check_depths(h, values.len(), from, to)?;
-    go(h, s, values, from, to);
+    Transform { h, s, values }.go(from, to);
     Ok(())
 }

@@ -8,9 +8,10 @@ mod layout;
 mod levels;
 mod points;
 mod reading;
+mod transform;
 mod way;
 
 pub use journey::travel;
 pub use levels::{analyse_level, synthesise_level};
-pub use points::{Spline, analyse_points, synthesise_points};
+pub use points::{analyse_points, synthesise_points};
 pub use way::Way;

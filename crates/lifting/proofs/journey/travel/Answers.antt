@@ -18,14 +18,14 @@ returns-in_err-check_depths g c =
       returned = returned m r undone;
     })
 
-pub returns : goal.returns
-returns g c =
+pub returns-clause-straight : goal.returns-clause-straight
+returns-clause-straight g c =
     let m = g.H.Hierarchy.meaning c.args.h.now in
     let r = rule g.S.Scheme g.S.Value.ValueKind c.args.s.now in
-    let undone = level_undone m r (g.H.Hierarchy.lawful c.args.h.now) g.S.Value.ValueKind.laws in
-    record {
-      result = c.in_ok-check_depths.ensures;
-      values = c.go.ensures;
-      straight = straight m r undone;
-      returned = returned m r undone;
-    }
+    straight m r (level_undone m r (g.H.Hierarchy.lawful c.args.h.now) g.S.Value.ValueKind.laws)
+
+pub returns-clause-returned : goal.returns-clause-returned
+returns-clause-returned g c =
+    let m = g.H.Hierarchy.meaning c.args.h.now in
+    let r = rule g.S.Scheme g.S.Value.ValueKind c.args.s.now in
+    returned m r (level_undone m r (g.H.Hierarchy.lawful c.args.h.now) g.S.Value.ValueKind.laws)

@@ -16,12 +16,8 @@ returns-in_err-check_level g c =
       equations = lifting_equations (g.H.Hierarchy.lawful c.args.h.now) c.args.level;
     })
 
-pub returns : goal.returns
-returns g c =
-    let m = g.H.Hierarchy.meaning c.args.h.now in
-    record {
-      result = c.in_ok-check_level.ensures;
-      values = c.synthesise.ensures;
-      undone = level_undone m (rule g.S.Scheme g.S.Value.ValueKind c.args.s.now) (g.H.Hierarchy.lawful c.args.h.now) g.S.Value.ValueKind.laws c.args.level;
-      equations = lifting_equations (g.H.Hierarchy.lawful c.args.h.now) c.args.level;
-    }
+pub returns-clause-undone : goal.returns-clause-undone
+returns-clause-undone g c = level_undone (g.H.Hierarchy.meaning c.args.h.now) (rule g.S.Scheme g.S.Value.ValueKind c.args.s.now) (g.H.Hierarchy.lawful c.args.h.now) g.S.Value.ValueKind.laws c.args.level
+
+pub returns-clause-equations : goal.returns-clause-equations
+returns-clause-equations g c = lifting_equations (g.H.Hierarchy.lawful c.args.h.now) c.args.level
