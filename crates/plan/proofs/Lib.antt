@@ -6,10 +6,10 @@ pub mod Showing
 pub mod Plains
 pub mod Crossing
 pub mod Telling
+pub mod Told
 pub mod Settle
 pub mod Ends
 pub mod Worked
-pub mod Asked
 pub mod Finding
 pub mod Coarse
 pub mod Blocks

@@ -1,15 +1,18 @@
 -- What a block's arrays say while other parts of the table are written. Assumes nothing.
-use Rattle.std.proofs.Common.{◌≡◌, ℕ, ◌+◌, ◌*◌, ◌<◌, Bool, true, false, cond, eqb, ltb, List, get_or, sym, refl, ap, ◌∙◌, arith}
+use Rattle.std.proofs.Common.{◌≡◌, ℕ, ◌+◌, ◌<◌, Bool, true, false, cond, ltb, List, get_or, refl, ap, ◌∙◌}
 use mathlib.Core.Path.{fun_ext}
-use Rattle.std.proofs.lemmas.Bool.{cond-true, cond-false, lt-ltb, ltb-true, eq-eqb, ne_eqb}
+use mir.Val.{bool_byte}
+use Rattle.std.specs.Borrow.{Bor}
+use Rattle.std.specs.Fn.{Shared}
+use Rattle.std.proofs.lemmas.Bool.{cond-true, lt-ltb, ltb-true}
 use Rattle.plan.specs.Sorting.{Keeps}
 use Rattle.plan.proofs.Places.{kept_part}
 use Rattle.levels.specs.Level.{Level}
-use Rattle.levels.specs.Finer.{half_at}
 use Rattle.plan.specs.declared.block.Block.{Block}
 use Rattle.plan.specs.declared.block.Array.{Array}
 use Rattle.plan.specs.declared.block.Array.TheVariants.{Ends, Halves, Faces, FaceEnds, Curves, Dimensions}
 use Rattle.plan.specs.Decoded.{decoded, of_arrays}
+use Rattle.plan.specs.Giving.{Gives}
 use Rattle.plan.specs.Layout.{begins, rooms, reads}
 use Rattle.plan.specs.Written.{Clear, Clears}
 
@@ -34,8 +37,11 @@ decoded_kept t u b low high c k =
     let d = reads_kept t u b Dimensions low high c.dimensions k in
     λ i. of_arrays b (e i) (h i) (f i) (g i) (m i) (d i)
 
-pub half_then : (m : Level) (e s v t x : ℕ) → s ≡ e → t ≡ m.tail s → x ≡ v → t ≡ x → 2 * s ≡ half_at m e v
-half_then m e s v t x p q r h = omega (arith, cond-true {A = ℕ} (eqb (m.tail e) v) 0 1 (eq-eqb (m.tail e) v (sym (q ∙ ap m.tail p) ∙ h ∙ r)), p)
+-- a mark as a number
+pub byte : (x : Bool) → bool_byte x ≡ cond x 1 0
+byte true = refl
+byte false = refl
 
-pub half_else : (m : Level) (e s v t x : ℕ) → s ≡ e → t ≡ m.tail s → x ≡ v → (t ≡ x → ⊥) → 2 * s + 1 ≡ half_at m e v
-half_else m e s v t x p q r h = omega (arith, cond-false {A = ℕ} (eqb (m.tail e) v) 0 1 (ne_eqb (m.tail e) v (λ z. h (q ∙ ap m.tail p ∙ z ∙ sym r))), p)
+-- what a closure gives from the level of a block that is written outside the level's arrays
+pub level_given : {F : Type 0} {g : Shared F (Bor (List ℕ) × (ℕ × Unit {0})) ℕ} {number : F} {t : List ℕ} {p i r : ℕ} (b : Block) (f : Level → ℕ) → Clears b p (p + i) → (w : Gives g number t p i r) → r ≡ f (decoded w.table.now b) → r ≡ f (decoded t b)
+level_given {t = t} {p = p} {i = i} b f clear w e = e ∙ ap f (decoded_kept t w.table.now b p (p + i) clear w.kept)

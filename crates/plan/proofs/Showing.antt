@@ -1,5 +1,7 @@
 -- What a block that stands for a level says of its edges and corners. Assumes nothing.
 use Rattle.std.proofs.Common.{◌≡◌, ℕ, ◌+◌, ◌*◌, ◌/◌, ◌%◌, ◌<◌, ◌≤◌, eqb, List, length, get_or, sym, ap, ◌∙◌, subst, inl, inr, ⊎_elim, arith}
+use Rattle.std.specs.Borrow.{Bor}
+use Rattle.std.specs.Fn.{Shared}
 use Rattle.std.specs.List.{range_with_len}
 use Rattle.std.proofs.lemmas.List.FromFn.{length-range_with_len}
 use Rattle.std.proofs.ByRecursion.{All-get_or}
@@ -14,13 +16,19 @@ use Rattle.levels.proofs.Uses.{half_at_tail, half_at_head, half_below}
 use Rattle.plan.specs.declared.block.Block.{Block}
 use Rattle.plan.specs.declared.block.Array.{Array}
 use Rattle.plan.specs.declared.block.Array.TheVariants.{Ends, Halves, Faces, VertexHalfEnds, VertexCornerEnds, FaceEnds, FaceByVertex, FaceByEdge, Curves, Dimensions}
-use Rattle.plan.specs.declared.write.Kind.{Kind}
-use Rattle.plan.specs.declared.write.Kind.TheVariants.{CornerVertex, CornerSide}
-use Rattle.plan.specs.Decoded.{decoded, end_at, corner_half, valued}
+use Rattle.plan.specs.Decoded.{decoded, end_at, corner_half}
+use Rattle.plan.specs.Giving.{Gives}
 use Rattle.plan.specs.Layout.{begins, rooms, reads}
 use Rattle.plan.specs.Written.{Clear, Clears, Ended, Shows, Grouped, Keyed, Lined}
-use Rattle.plan.proofs.Reading.{reads_in, reads_kept, decoded_kept}
+use Rattle.plan.proofs.Reading.{reads_in, reads_kept, level_given}
 use Rattle.plan.proofs.Grouping.{sorted_all, counting_below, counting_at}
+
+-- writing where corners are sorted leaves the level
+pub clears_lists : (b : Block) (low high : ℕ) → begins b VertexHalfEnds ≤ low → high ≤ begins b FaceEnds → Clears b low high
+clears_lists b low high l h = record { ends = inl (omega arith); halves = inl (omega arith); faces = inl (omega arith); face_ends = inr (omega arith); curves = inr (omega arith); dimensions = inr (omega arith) }
+
+pub clears_faces : (b : Block) (low high : ℕ) → begins b FaceByVertex ≤ low → high ≤ begins b Curves → Clears b low high
+clears_faces b low high l h = record { ends = inl (omega arith); halves = inl (omega arith); faces = inl (omega arith); face_ends = inl (omega arith); curves = inr (omega arith); dimensions = inr (omega arith) }
 
 module _ (m : Level) (sound : Sound m) where
   pub end_below : (h : ℕ) → h < 2 * m.edges → end_at m h < m.vertices
@@ -52,11 +60,16 @@ module _ (m : Level) (sound : Sound m) where
     pub shown_side : (c : ℕ) → c < m.corners → (decoded t b).side c ≡ m.side c
     shown_side c l = ap (λ h. h / 2) (shows.halves c l) ∙ half_side c
 
-    pub keyed_vertex : Keyed t b CornerVertex m.vertex b.vertices
-    keyed_vertex = let n = shows.counts in record { same = λ c l. shown_vertex c (omega (arith, n.corners)); small = λ c l. omega (arith, n.vertices, sound.placed c (omega (arith, n.corners))) }
+    module _ {F : Type 0} {g : Shared F (Bor (List ℕ) × (ℕ × Unit {0})) ℕ} {number : F} where
+      keyed_by : (key : Level → ℕ → ℕ) (keys : ℕ → ℕ) → ((c r : ℕ) (w : Gives g number t (begins b FaceByVertex) c r) → c < b.corners → r ≡ key (decoded w.table.now b) c) → ((c : ℕ) → c < m.corners → key (decoded t b) c ≡ keys c)
+          → (c r : ℕ) → c < b.corners → Gives g number t (begins b FaceByVertex) c r → r ≡ keys c
+      keyed_by key keys says same c r l w = level_given b (λ d. key d c) (clears_faces b _ _ (omega arith) (omega arith)) w (says c r w l) ∙ same c (omega (arith, shows.counts.corners))
 
-    pub keyed_side : Keyed t b CornerSide m.side b.edges
-    keyed_side = let n = shows.counts in record { same = λ c l. shown_side c (omega (arith, n.corners)); small = λ c l. omega (arith, n.edges, sound.sided c (omega (arith, n.corners))) }
+      pub keyed_vertex : ((c r : ℕ) (w : Gives g number t (begins b FaceByVertex) c r) → c < b.corners → r ≡ (decoded w.table.now b).vertex c) → Keyed g number t b m.vertex b.vertices
+      keyed_vertex says = let n = shows.counts in record { same = keyed_by (λ d. d.vertex) m.vertex says shown_vertex; small = λ c l. omega (arith, n.vertices, sound.placed c (omega (arith, n.corners))) }
+
+      pub keyed_side : ((c r : ℕ) (w : Gives g number t (begins b FaceByVertex) c r) → c < b.corners → r ≡ (decoded w.table.now b).side c) → Keyed g number t b m.side b.edges
+      keyed_side says = let n = shows.counts in record { same = keyed_by (λ d. d.side) m.side says shown_side; small = λ c l. omega (arith, n.edges, sound.sided c (omega (arith, n.corners))) }
 
     -- the corners in an array, sorted by a key
     pub lined_by : (order : Array) (key : ℕ → ℕ) (n : ℕ) → ((c : ℕ) → c < m.corners → key c < n)
@@ -94,13 +107,6 @@ grouped_kept t u b ends out low high key n xs c d k g = record {
   listed = λ i l. ap (λ f. f i) (reads_kept t u b out low high d k) ∙ g.listed i l;
 }
 
--- writing where corners are sorted leaves the level
-pub clears_lists : (b : Block) (low high : ℕ) → begins b VertexHalfEnds ≤ low → high ≤ begins b FaceEnds → Clears b low high
-clears_lists b low high l h = record { ends = inl (omega arith); halves = inl (omega arith); faces = inl (omega arith); face_ends = inr (omega arith); curves = inr (omega arith); dimensions = inr (omega arith) }
-
-pub clears_faces : (b : Block) (low high : ℕ) → begins b FaceByVertex ≤ low → high ≤ begins b Curves → Clears b low high
-clears_faces b low high l h = record { ends = inl (omega arith); halves = inl (omega arith); faces = inl (omega arith); face_ends = inl (omega arith); curves = inr (omega arith); dimensions = inr (omega arith) }
-
 -- the half edges and their vertices, as a sort finds them
 pub halves_queued : (t u : List ℕ) (b : Block) (m : Level) (s : Sort) → Ended t b m → Sound m → s.keys ≡ begins b Ends → s.order ≡ begins b VertexCornerEnds → s.items ≡ 2 * b.edges → s.count ≡ b.vertices
     → Keeps t u s.order (s.order + s.items) → ((i : ℕ) → i < s.items → get_or u (s.order + i) 0 ≡ i) → Queued u s (end_at m) (range_with_len 0 (2 * m.edges))
@@ -118,20 +124,19 @@ halves_queued t u b m s shows sound keys order items count k written =
     }
 
 -- the corners and their keys, as a sort finds them
-pub corners_queued : (t u v : List ℕ) (b : Block) (kind : Kind) (key : ℕ → ℕ) (count : ℕ) (s : Sort) → Keyed t b kind key count → s.keys ≡ begins b FaceByVertex → s.order ≡ begins b FaceByEdge → s.items ≡ b.corners → s.count ≡ count
-    → Keeps t u s.order (s.order + s.items) → ((i : ℕ) → i < s.items → get_or u (s.order + i) 0 ≡ i)
-    → Keeps u v s.keys (s.keys + s.items) → ((i : ℕ) → i < s.items → get_or v (s.keys + i) 0 ≡ valued (decoded u b) kind i)
+pub corners_queued : (u v : List ℕ) (b : Block) (key : ℕ → ℕ) (s : Sort) → s.keys ≡ begins b FaceByVertex → s.order ≡ begins b FaceByEdge → s.items ≡ b.corners
+    → ((c : ℕ) → c < b.corners → get_or u (s.keys + c) 0 ≡ key c) → ((c : ℕ) → c < b.corners → key c < s.count)
+    → Keeps u v s.order (s.order + s.items) → ((i : ℕ) → i < s.items → get_or v (s.order + i) 0 ≡ i)
     → Queued v s key (range_with_len 0 b.corners)
-corners_queued t u v b kind key count s keyed keys order items counts k counted l written =
+corners_queued u v b key s keys order items keyed small k counted =
     let long = length-range_with_len 0 b.corners in
     let at : (i : ℕ) → i < length (range_with_len 0 b.corners) → (get_or (range_with_len 0 b.corners) i 0 ≡ i) × (i < b.corners) = λ i h. let g : i < b.corners = omega arith in (counting_at b.corners i g, g) in
-    let same = decoded_kept t u b s.order (s.order + s.items) (clears_faces b s.order (s.order + s.items) (omega arith) (omega arith)) k in
     record {
       many = omega arith;
-      listed = λ i h. l.above (s.order + i) (omega arith) ∙ counted i (omega (arith, (at i h).1)) ∙ sym (at i h).0;
+      listed = λ i h. counted i (omega (arith, (at i h).1)) ∙ sym (at i h).0;
       below = λ i h. omega (arith, (at i h).0, (at i h).1);
-      keyed = λ i h. ap (λ x. get_or v (s.keys + x) 0) (at i h).0 ∙ written i (omega (arith, (at i h).1)) ∙ ap (λ d. valued d kind i) same ∙ keyed.same i (at i h).1 ∙ sym (ap key (at i h).0);
-      small = λ i h. subst (λ x. key x < s.count) (sym (at i h).0) (omega (arith, keyed.small i (at i h).1));
+      keyed = λ i h. ap (λ x. get_or v (s.keys + x) 0) (at i h).0 ∙ k.below (s.keys + i) (omega (arith, (at i h).1)) ∙ keyed i (at i h).1 ∙ sym (ap key (at i h).0);
+      small = λ i h. subst (λ x. key x < s.count) (sym (at i h).0) (small i (at i h).1);
     }
 
 -- corners in an array with their faces, as a sort finds them

@@ -1,6 +1,10 @@
 -- What a survey of a base finds, and what planning answers after it. Assumes nothing.
-use Rattle.std.proofs.Common.{◌≡◌, ℕ, zero, suc, ◌+◌, ◌<◌, ◌≤◌, Bool, true, false, ltb, leb, List, Some, None, Ok, Err, Option, sym, refl, ap, ◌∙◌, arith}
-use Rattle.std.proofs.lemmas.Bool.{and_parts, cond-true, cond-false, leb-true, ltb-false, lt-ltb, le-ltb}
+use Rattle.std.proofs.Common.{◌≡◌, ℕ, zero, suc, ◌+◌, ◌<◌, ◌≤◌, Bool, true, false, ltb, leb, List, Some, None, Ok, Err, Option, length, get_or, take, sym, refl, ap, ◌∙◌, ⊎_elim, arith, length-take, get_or-take}
+use Rattle.std.specs.List.{position, position_or_len}
+use Rattle.std.proofs.lemmas.List.{get_or_past}
+use Rattle.std.proofs.lemmas.List.Quantifiers.{position-Some}
+use Rattle.std.proofs.lemmas.List.Sums.{fails_before_first}
+use Rattle.std.proofs.lemmas.Bool.{and_parts, cases_lt, cond-true, cond-false, leb-true, ltb-false, lt-ltb, le-ltb}
 use Rattle.refusal.specs.declared.Refusal.{Refusal}
 use Rattle.refusal.specs.declared.Refusal.TheVariants.{LevelCount, TableTooShort}
 use Rattle.hierarchy.specs.Limits.{has_levels}
@@ -9,7 +13,7 @@ use Rattle.mesh.specs.Lowest.{lowest}
 use Rattle.mesh.specs.Reading.{unless, then}
 use Rattle.mesh.specs.Rules.{Rules}
 use Rattle.mesh.specs.Shape.{Shape}
-use Rattle.mesh.proofs.Lowests.{lowest_missing}
+use Rattle.mesh.proofs.Lowests.{lowest_missing, lowest_none, lowest_some}
 use Rattle.levels.specs.Finer.{level}
 use Rattle.levels.specs.Incidence.{hierarchy}
 use Rattle.levels.specs.Level.{Level}
@@ -17,7 +21,7 @@ use Rattle.levels.specs.Surfaces.{surface}
 use Rattle.levels.proofs.Hierarchies.{hierarchy_lawful}
 use Rattle.levels.proofs.SurfaceSound.{surface_sound}
 use Rattle.plan.specs.declared.block.Block.{Block}
-use Rattle.plan.specs.Planning.{needs, bad_levels, over, too_fine, need, in_table, planned, block_of, first_block, block_at}
+use Rattle.plan.specs.Planning.{needs, bad_levels, over, too_fine, need, in_table, planned, no_block, block_of, first_block, block_at}
 use Rattle.plan.specs.Surveys.{Surveyed}
 use Rattle.plan.proofs.Blocks.{counts_at, at_needs}
 
@@ -25,6 +29,36 @@ lowest_alike : (p q : ℕ → Bool) (n : ℕ) → ((j : ℕ) → j < n → p j �
 unfolding lowest
 lowest_alike p q zero h = refl
 lowest_alike p q (suc n) h = rw (lowest_alike p q n (λ j l. h j (omega arith)), h n (omega arith))
+
+none_passes : (p : Block → Bool) (xs : List Block) → position p xs ≡ None → (k : ℕ) → k < length xs → p (get_or xs k no_block) ≡ false
+none_passes p xs e k l =
+    let i = position_or_len p xs in
+    ⊎_elim
+    (λ (low : i < length xs). let found : position p xs ≡ Some i = cond-true (ltb i (length xs)) (Some i) None (lt-ltb i (length xs) low) in absurd (cc (e, found)))
+    (λ (high : length xs ≤ i). fails_before_first p xs k no_block (omega arith))
+    (cases_lt i (length xs))
+
+-- the first of the first n blocks that has too many vertices
+module _ (bs : List Block) (n : ℕ) where
+  abbrev large : Block → Bool
+  large b = ltb 65536 b.vertices
+
+  first_large : (o : Option ℕ) → position large (take n bs) ≡ o → o ≡ lowest (λ j. ltb 65536 (block_of bs j).vertices) n
+  first_large (Some k) e =
+      let f = position-Some large (take n bs) k no_block e in
+      let inside : k < n = omega (arith, f.0, length-take n bs) in
+      sym (lowest_some (λ j. ltb 65536 (block_of bs j).vertices) n k inside
+      (ap large (sym (get_or-take n bs k no_block inside)) ∙ f.1)
+      (λ j l. ap large (sym (get_or-take n bs j no_block (omega arith))) ∙ f.2 j l))
+  first_large None e =
+      sym (lowest_none (λ j. ltb 65536 (block_of bs j).vertices) n
+      (λ j l. ⊎_elim
+      (λ (low : j < length (take n bs)). ap large (sym (get_or-take n bs j no_block l)) ∙ none_passes large (take n bs) e j low)
+      (λ (high : length (take n bs) ≤ j). ap large (get_or_past bs j no_block (omega (arith, length-take n bs))))
+      (cases_lt j (length (take n bs)))))
+
+  pub judged : unless (over (position (λ (b : Block). ltb 65536 b.vertices) (take n bs))) (Ok (tt {0})) ≡ unless (over (lowest (λ j. ltb 65536 (block_of bs j).vertices) n)) (Ok (tt {0}))
+  judged = ap (λ o. unless (over o) (Ok (tt {0}))) (first_large (position large (take n bs)) refl)
 
 -- an answer with another value where nothing is refused
 unless_err : {A B : Type 0} (o : Option Refusal) (x : A) (y : B) (e : Refusal) → Err e ≡ unless o (Ok x) → unless o (Ok y) ≡ Err e

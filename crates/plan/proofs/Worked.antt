@@ -12,9 +12,7 @@ use Rattle.levels.proofs.FinerSound.{finer_sound, finer_covered}
 use Rattle.levels.proofs.Places.{by_quarters, by_halves, tail_first, tail_second, tail_inner, head_first, head_second, head_inner, vertex_0, vertex_1, vertex_2, vertex_3, side_0, side_1, side_2, side_3}
 use Rattle.plan.specs.declared.block.Block.{Block}
 use Rattle.plan.specs.declared.block.Array.TheVariants.{Ends, Halves, Faces, FaceEnds, FaceByVertex, Curves, Dimensions}
-use Rattle.plan.specs.declared.write.Kind.{Kind}
-use Rattle.plan.specs.declared.write.Kind.TheVariants.{FineEnds, FineHalves, FineCurves, FineDimensions}
-use Rattle.plan.specs.Decoded.{decoded, valued, end_at, corner_half, mark, start_of}
+use Rattle.plan.specs.Decoded.{decoded, end_at, corner_half, mark, start_of}
 use Rattle.plan.specs.Layout.{begins, reads}
 use Rattle.plan.specs.Written.{Clears, Counts, Shows, Standing, next, corners_by_vertex}
 use Rattle.plan.proofs.Crossing.{group_start}
@@ -185,17 +183,17 @@ module _ (t : List ℕ) (b : Block) (m : Level) (s : Standing t b m) where
     dimension = d.dimension;
   }
 
-  pub worked_ends : (h : ℕ) → h < 2 * (finer m).edges → valued (decoded t b) FineEnds h ≡ end_at (finer m) h
-  worked_ends h l = ap (λ x. valued x FineEnds h) counted ∙ fine_ends d m s.sound alike h l
+  pub worked_ends : (h : ℕ) → h < 2 * (finer m).edges → end_at (finer (decoded t b)) h ≡ end_at (finer m) h
+  worked_ends h l = ap (λ x. end_at (finer x) h) counted ∙ fine_ends d m s.sound alike h l
 
-  pub worked_halves : (c : ℕ) → c < (finer m).corners → valued (decoded t b) FineHalves c ≡ corner_half (finer m) c
-  worked_halves c l = ap (λ x. valued x FineHalves c) counted ∙ fine_halves d m s.sound alike c l
+  pub worked_halves : (c : ℕ) → c < (finer m).corners → corner_half (finer (decoded t b)) c ≡ corner_half (finer m) c
+  worked_halves c l = ap (λ x. corner_half (finer x) c) counted ∙ fine_halves d m s.sound alike c l
 
-  pub worked_marks : (e : ℕ) → e < (finer m).edges → valued (decoded t b) FineCurves e ≡ mark (finer m) e
-  worked_marks e l = ap (λ x. valued x FineCurves e) counted ∙ fine_marks d m s.sound alike e l
+  pub worked_marks : (e : ℕ) → e < (finer m).edges → mark (finer (decoded t b)) e ≡ mark (finer m) e
+  worked_marks e l = ap (λ x. mark (finer x) e) counted ∙ fine_marks d m s.sound alike e l
 
-  pub worked_dimensions : (v : ℕ) → v < (finer m).vertices → valued (decoded t b) FineDimensions v ≡ (finer m).dimension v
-  worked_dimensions v l = ap (λ x. valued x FineDimensions v) counted ∙ fine_dims d m s.sound alike v l
+  pub worked_dimensions : (v : ℕ) → v < (finer m).vertices → (finer (decoded t b)).dimension v ≡ (finer m).dimension v
+  worked_dimensions v l = ap (λ x. (finer x).dimension v) counted ∙ fine_dims d m s.sound alike v l
 
   pub next_counts : Counts (next b) (finer m)
   next_counts = next_counted b m n s.sound s.covered
@@ -208,8 +206,8 @@ abbrev Beyond : List ℕ → List ℕ → Block → Type 0
 Beyond t u b = Keeps t u (b.at + 16 * b.corners) (b.at + 80 * b.corners)
 
 module _ (t : List ℕ) (b : Block) (m : Level) (s : Standing t b m) (u : List ℕ) (k : Beyond t u b) where
-  same : (kind : Kind) (i : ℕ) → valued (decoded u b) kind i ≡ valued (decoded t b) kind i
-  same kind i = ap (λ d. valued d kind i) (decoded_kept t u b _ _ (clears_beyond b _ _ (omega arith)) k)
+  same : decoded u b ≡ decoded t b
+  same = decoded_kept t u b _ _ (clears_beyond b _ _ (omega arith)) k
 
   sound' : Sound (finer m)
   sound' = finer_sound m s.sound
@@ -218,28 +216,28 @@ module _ (t : List ℕ) (b : Block) (m : Level) (s : Standing t b m) (u : List �
   counts' = next_counts t b m s
 
   module _ (small : b.at + 80 * b.corners ≤ 2 ^ 30) where
-    pub small_ends : (h : ℕ) → h < 2 * (next b).edges → valued (decoded u b) FineEnds h < 2 ^ 32
-    small_ends h l = let n = counts' in let l' : h < 2 * (finer m).edges = omega (arith, n.edges) in omega (arith, same FineEnds h ∙ worked_ends t b m s h l', end_below (finer m) sound' h l', n.vertex_room, n.corners)
+    pub small_ends : (h : ℕ) → h < 2 * (next b).edges → end_at (finer (decoded u b)) h < 2 ^ 32
+    small_ends h l = let n = counts' in let l' : h < 2 * (finer m).edges = omega (arith, n.edges) in omega (arith, ap (λ d. end_at (finer d) h) same ∙ worked_ends t b m s h l', end_below (finer m) sound' h l', n.vertex_room, n.corners)
 
-    pub small_halves : (c : ℕ) → c < (next b).corners → valued (decoded u b) FineHalves c < 2 ^ 32
-    small_halves c l = let n = counts' in let l' : c < (finer m).corners = omega (arith, n.corners) in omega (arith, same FineHalves c ∙ worked_halves t b m s c l', half_in (finer m) sound' c l', n.edge_room, n.corners)
+    pub small_halves : (c : ℕ) → c < (next b).corners → corner_half (finer (decoded u b)) c < 2 ^ 32
+    small_halves c l = let n = counts' in let l' : c < (finer m).corners = omega (arith, n.corners) in omega (arith, ap (λ d. corner_half (finer d) c) same ∙ worked_halves t b m s c l', half_in (finer m) sound' c l', n.edge_room, n.corners)
 
-    pub small_marks : (e : ℕ) → valued (decoded u b) FineCurves e < 2 ^ 32
+    pub small_marks : (e : ℕ) → mark (finer (decoded u b)) e < 2 ^ 32
     small_marks e = cond_both ((finer (decoded u b)).curve e) 1 0 (λ x. x < 2 ^ 32) (λ _. omega arith) (λ _. omega arith)
 
-    pub small_dimensions : (v : ℕ) → v < (next b).vertices → valued (decoded u b) FineDimensions v < 2 ^ 32
-    small_dimensions v l = let n = counts' in let l' : v < (finer m).vertices = omega (arith, n.vertices) in omega (arith, same FineDimensions v ∙ worked_dimensions t b m s v l', sound'.dimensions v l')
+    pub small_dimensions : (v : ℕ) → v < (next b).vertices → (finer (decoded u b)).dimension v < 2 ^ 32
+    small_dimensions v l = let n = counts' in let l' : v < (finer m).vertices = omega (arith, n.vertices) in omega (arith, ap (λ d. (finer d).dimension v) same ∙ worked_dimensions t b m s v l', sound'.dimensions v l')
 
 -- the block behind stands for the next finer level once its arrays are written
 pub finer_shown : (t u1 u2 u3 u4 u5 : List ℕ) (b to : Block) (m : Level) (s : Standing t b m) → to ≡ next b → (p1 p2 p3 p4 p5 : ℕ)
     → p1 ≡ begins to Ends → p2 ≡ begins to Halves → p3 ≡ begins to Faces → p4 ≡ begins to Curves → p5 ≡ begins to Dimensions
     → Beyond t u1 b → Beyond t u3 b → Beyond t u4 b
     → Keeps u1 u2 p2 (p2 + to.corners) → Keeps u2 u3 p3 (p3 + to.corners) → Keeps u3 u4 p4 (p4 + to.edges) → Keeps u4 u5 p5 (p5 + to.vertices)
-    → ((i : ℕ) → i < 2 * to.edges → get_or u1 (p1 + i) 0 ≡ valued (decoded t b) FineEnds i)
-    → ((i : ℕ) → i < to.corners → get_or u2 (p2 + i) 0 ≡ valued (decoded u1 b) FineHalves i)
+    → ((i : ℕ) → i < 2 * to.edges → get_or u1 (p1 + i) 0 ≡ end_at (finer (decoded t b)) i)
+    → ((i : ℕ) → i < to.corners → get_or u2 (p2 + i) 0 ≡ corner_half (finer (decoded u1 b)) i)
     → ((i : ℕ) → i < to.corners → get_or u3 (p3 + i) 0 ≡ i / 4)
-    → ((i : ℕ) → i < to.edges → get_or u4 (p4 + i) 0 ≡ valued (decoded u3 b) FineCurves i)
-    → ((i : ℕ) → i < to.vertices → get_or u5 (p5 + i) 0 ≡ valued (decoded u4 b) FineDimensions i)
+    → ((i : ℕ) → i < to.edges → get_or u4 (p4 + i) 0 ≡ mark (finer (decoded u3 b)) i)
+    → ((i : ℕ) → i < to.vertices → get_or u5 (p5 + i) 0 ≡ (finer (decoded u4 b)).dimension i)
     → Shows u5 to (finer m)
 finer_shown t u1 u2 u3 u4 u5 b to m s e p1 p2 p3 p4 p5 q1 q2 q3 q4 q5 y1 y3 y4 k2 k3 k4 k5 w1 w2 w3 w4 w5 =
     let n : Counts to (finer m) = subst (λ x. Counts x (finer m)) (sym e) (next_counts t b m s) in
@@ -252,14 +250,14 @@ finer_shown t u1 u2 u3 u4 u5 b to m s e p1 p2 p3 p4 p5 q1 q2 q3 q4 q5 y1 y3 y4 k
       halves = λ c l.
           reads_in u5 to Halves c (omega (arith, n.corners)) ∙ ap (λ p. get_or u5 (p + c) 0) (sym q2)
           ∙ k5.below (p2 + c) (omega (arith, n.corners)) ∙ k4.below (p2 + c) (omega (arith, n.corners)) ∙ k3.below (p2 + c) (omega (arith, n.corners))
-          ∙ w2 c (omega (arith, n.corners)) ∙ same t b m s u1 y1 FineHalves c ∙ worked_halves t b m s c l;
+          ∙ w2 c (omega (arith, n.corners)) ∙ ap (λ d. corner_half (finer d) c) (same t b m s u1 y1) ∙ worked_halves t b m s c l;
       faces = λ c l.
           reads_in u5 to Faces c (omega (arith, n.corners)) ∙ ap (λ p. get_or u5 (p + c) 0) (sym q3)
           ∙ k5.below (p3 + c) (omega (arith, n.corners)) ∙ k4.below (p3 + c) (omega (arith, n.corners)) ∙ w3 c (omega (arith, n.corners));
       curves = λ i l.
           reads_in u5 to Curves i (omega (arith, n.edge_room, n.corners)) ∙ ap (λ p. get_or u5 (p + i) 0) (sym q4)
-          ∙ k5.below (p4 + i) (omega (arith, n.edge_room, n.corners)) ∙ w4 i (omega (arith, n.edges)) ∙ same t b m s u3 y3 FineCurves i ∙ worked_marks t b m s i l;
+          ∙ k5.below (p4 + i) (omega (arith, n.edge_room, n.corners)) ∙ w4 i (omega (arith, n.edges)) ∙ ap (λ d. mark (finer d) i) (same t b m s u3 y3) ∙ worked_marks t b m s i l;
       dimensions = λ v l.
           reads_in u5 to Dimensions v (omega (arith, n.vertex_room, n.corners)) ∙ ap (λ p. get_or u5 (p + v) 0) (sym q5)
-          ∙ w5 v (omega (arith, n.vertices)) ∙ same t b m s u4 y4 FineDimensions v ∙ worked_dimensions t b m s v l;
+          ∙ w5 v (omega (arith, n.vertices)) ∙ ap (λ d. (finer d).dimension v) (same t b m s u4 y4) ∙ worked_dimensions t b m s v l;
     }

@@ -1,11 +1,10 @@
 -- The level that a block's arrays stand for.
 use Rattle.std.specs.Prelude.{ℕ, ◌+◌, ◌-◌, ◌*◌, ◌/◌, ◌%◌, cond, List, ◌==◌}
 use Rattle.levels.specs.Level.{Level}
-use Rattle.levels.specs.Finer.{finer, half_at}
+use Rattle.levels.specs.Finer.{half_at}
 use Rattle.plan.specs.declared.block.Block.{Block}
 use Rattle.plan.specs.declared.block.Array.TheVariants.{Ends, Halves, Faces, FaceEnds, Curves, Dimensions}
-use Rattle.plan.specs.declared.write.Kind.{Kind}
-use Rattle.plan.specs.declared.write.Kind.TheVariants.{Counter, CornerVertex, CornerSide, FineEnds, FineHalves, FineFaces, FineCurves, FineDimensions}
+use Rattle.plan.specs.declared.view.View.{View}
 use Rattle.plan.specs.Layout.{reads}
 
 -- where list k begins: where the one before it ends
@@ -34,6 +33,10 @@ of_arrays b at half face ends curve dim = record {
 abbrev pub decoded : List ℕ → Block → Level
 decoded t b = of_arrays b (reads t b Ends) (reads t b Halves) (reads t b Faces) (reads t b FaceEnds) (reads t b Curves) (reads t b Dimensions)
 
+-- what a view shows
+abbrev pub shown : View → Level
+shown v = decoded v.table.now v.block
+
 -- the numbers that stand for a level
 abbrev pub end_at : Level → ℕ → ℕ
 end_at m h = cond (h % 2 == 0) (m.tail (h / 2)) (m.head (h / 2))
@@ -43,14 +46,3 @@ corner_half m c = half_at m (m.side c) (m.vertex c)
 
 abbrev pub mark : Level → ℕ → ℕ
 mark m e = cond (m.curve e) 1 0
-
--- what is written: counted up, or from a level, or from the next finer one
-abbrev pub valued : Level → Kind → ℕ → ℕ
-valued m Counter i = i
-valued m CornerVertex i = m.vertex i
-valued m CornerSide i = m.side i
-valued m FineEnds i = end_at (finer m) i
-valued m FineHalves i = corner_half (finer m) i
-valued m FineFaces i = (finer m).face i
-valued m FineCurves i = mark (finer m) i
-valued m FineDimensions i = (finer m).dimension i

@@ -1,5 +1,6 @@
 pub mod Sorting
 pub mod Layout
+pub mod Giving
 pub mod Decoded
 pub mod Told
 pub mod Loaded

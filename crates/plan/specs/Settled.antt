@@ -4,23 +4,14 @@ use Rattle.levels.specs.Level.{Level}
 use Rattle.plan.specs.declared.block.Block.{Block}
 use Rattle.plan.specs.declared.block.Array.{Array}
 use Rattle.plan.specs.declared.block.Array.TheVariants.{Ends, VertexHalfEnds, VertexHalves, VertexCornerEnds, VertexCorners, EdgeCornerEnds, EdgeCorners, FaceEnds, FaceByVertex, FaceByEdge, Curves, Dimensions}
-use Rattle.plan.specs.declared.settling.Turn.{Turn}
-use Rattle.plan.specs.declared.settling.Turn.TheVariants.{HalfToEdge, CornerToFace, CornerToVertex, CornerToSide}
 use Rattle.plan.specs.Decoded.{decoded}
 use Rattle.plan.specs.Layout.{begins, rooms}
 use Rattle.plan.specs.Loaded.{at}
 use Rattle.plan.specs.Written.{Standing}
 
--- what a half edge or a corner turns into
-abbrev pub turned : Level → Turn → ℕ → ℕ
-turned m HalfToEdge h = h / 2
-turned m CornerToFace c = m.face c
-turned m CornerToVertex c = m.vertex c
-turned m CornerToSide c = m.side c
-
 -- the first numbers of an array have been turned
-abbrev pub Turned : Level → Turn → List ℕ → List ℕ → Block → Array → ℕ → Type 0
-Turned m turn before after b a n = (i : ℕ) → i < n → at after (begins b a) i ≡ turned m turn (at before (begins b a) i)
+abbrev pub Turned : (ℕ → ℕ) → List ℕ → List ℕ → Block → Array → ℕ → Type 0
+Turned turn before after b a n = (i : ℕ) → i < n → at after (begins b a) i ≡ turn (at before (begins b a) i)
 
 -- an array is as it was
 abbrev pub Same : List ℕ → List ℕ → Block → Array → Type 0
@@ -36,11 +27,11 @@ pub record Settled (t : List ℕ) (b : Block) (m : Level) : Type 0 where
   pub before : List ℕ
   pub standing : Standing before b m
   pub ends : Ascending before t b
-  pub vertex_edges : Turned (decoded before b) HalfToEdge before t b VertexHalves (2 * b.edges)
-  pub vertex_faces : Turned (decoded before b) CornerToFace before t b VertexCorners b.corners
-  pub edge_faces : Turned (decoded before b) CornerToFace before t b EdgeCorners b.corners
-  pub face_vertices : Turned (decoded before b) CornerToVertex before t b FaceByVertex b.corners
-  pub face_edges : Turned (decoded before b) CornerToSide before t b FaceByEdge b.corners
+  pub vertex_edges : Turned (λ h. h / 2) before t b VertexHalves (2 * b.edges)
+  pub vertex_faces : Turned (decoded before b).face before t b VertexCorners b.corners
+  pub edge_faces : Turned (decoded before b).face before t b EdgeCorners b.corners
+  pub face_vertices : Turned (decoded before b).vertex before t b FaceByVertex b.corners
+  pub face_edges : Turned (decoded before b).side before t b FaceByEdge b.corners
   pub vertex_half_ends : Same before t b VertexHalfEnds
   pub vertex_corner_ends : Same before t b VertexCornerEnds
   pub edge_corner_ends : Same before t b EdgeCornerEnds

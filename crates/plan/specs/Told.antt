@@ -1,4 +1,4 @@
--- What a block tells: counts, lists, marks and dimensions.
+-- What a block tells before it is settled, half edges and corners still: lists, marks and dimensions.
 use Rattle.std.specs.Prelude.{ℕ, ◌+◌, ◌-◌, ◌*◌, ◌/◌, Bool, cond, ◌&&◌, List, [], ◌∷◌, map, ◌==◌, nat_lt}
 use Rattle.std.specs.List.{range_with_len}
 use Rattle.hierarchy.specs.declared.link.Link.{Link}

@@ -1,14 +1,16 @@
 -- When a block stands for a level.
 use Rattle.std.specs.Prelude.{◌≡◌, ℕ, ◌+◌, ◌-◌, ◌*◌, ◌%◌, ◌<◌, ◌≤◌, cond, ◌⊎◌, List, length, ◌==◌, slice_index}
 use Rattle.std.specs.List.{range_with_len}
+use Rattle.std.specs.Borrow.{Bor}
+use Rattle.std.specs.Fn.{Shared}
 use Rattle.plan.specs.Sorting.{sorted}
 use Rattle.levels.specs.Level.{Level}
 use Rattle.levels.specs.Sound.{Sound, Covered}
 use Rattle.plan.specs.declared.block.Block.{Block}
 use Rattle.plan.specs.declared.block.Array.{Array}
 use Rattle.plan.specs.declared.block.Array.TheVariants.{Ends, Halves, Faces, VertexHalfEnds, VertexHalves, VertexCornerEnds, VertexCorners, EdgeCornerEnds, EdgeCorners, FaceEnds, FaceByVertex, FaceByEdge, Curves, Dimensions}
-use Rattle.plan.specs.declared.write.Kind.{Kind}
-use Rattle.plan.specs.Decoded.{decoded, valued, end_at, corner_half, mark}
+use Rattle.plan.specs.Decoded.{end_at, corner_half, mark}
+use Rattle.plan.specs.Giving.{Gives}
 use Rattle.plan.specs.Layout.{begins, rooms, reads}
 use Rattle.plan.specs.Plain.{Plain}
 
@@ -81,9 +83,9 @@ pub record Sortable (b : Block) (ends : Array) (count : ℕ) (out : Array) : Typ
   pub end_room : count ≤ rooms b ends
   pub out_room : b.corners ≤ rooms b out
 
--- the numbers of this kind, one for each corner, are these keys
-pub record Keyed (t : List ℕ) (b : Block) (kind : Kind) (key : ℕ → ℕ) (n : ℕ) : Type 0 where
-  pub same : (c : ℕ) → c < b.corners → valued (decoded t b) kind c ≡ key c
+-- what a closure gives for each corner, where the keys of a sort stand, is this key
+pub record Keyed {F : Type 0} (g : Shared F (Bor (List ℕ) × (ℕ × Unit {0})) ℕ) (number : F) (t : List ℕ) (b : Block) (key : ℕ → ℕ) (n : ℕ) : Type 0 where
+  pub same : (c r : ℕ) → c < b.corners → Gives g number t (begins b FaceByVertex) c r → r ≡ key c
   pub small : (c : ℕ) → c < b.corners → key c < n
 
 -- where the sorted corners may be sorted by face: from an array before the ends of faces to one behind them

@@ -9,18 +9,18 @@ ghost use Rattle.plan.specs.Sorting.{Keeps};
 use crate::block::Block;
 use crate::coarsest::{first_block, write_coarsest};
 use crate::lists::list;
-use crate::refining::{next, refine};
+use crate::refining::refine;
 use crate::settling::settle;
 use base::Base;
 
-// Where each level stands.
+// Where each level stands. Each block is made from the one before it in the same array, so no iterator can run over the array.
 pub(crate) fn lay_out(base: &Base, levels: usize) -> [Block; 6]
     requires { levels ≤ 5 }
     ensures { (j : ℕ) → j ≤ levels → block_of result j ≡ block_at (first_block (shape base.now)) j }
 {
     let mut blocks = [first_block(base); 6];
     for j in 0..levels {
-        blocks[j + 1] = next(blocks[j]);
+        blocks[j + 1] = blocks[j].next();
     }
     blocks
 }
@@ -36,9 +36,9 @@ pub(crate) fn fill_levels(table: &mut [u32], base: &Base, blocks: [Block; 6], le
 {
     write_coarsest(table, blocks[0], base);
     list(table, blocks[0]);
-    for j in 0..levels - 1 {
-        let finer = refine(table, blocks[j]);
-        settle(table, blocks[j]);
+    for block in &blocks[..levels - 1] {
+        let finer = refine(table, *block);
+        settle(table, *block);
         list(table, finer);
     }
     settle(table, blocks[levels - 1]);

@@ -9,10 +9,11 @@ ghost use Rattle.plan.specs.Planning.{first_block};
 ghost use Rattle.plan.specs.Sorting.{Keeps};
 ghost use Rattle.plan.specs.Written.{Ended, HalvesListed, Shows};
 
-use crate::block::{Array, Block, start};
-use crate::find::find_half;
+use crate::block::{Array, Block};
 use crate::lists::list_halves;
 use crate::scatter::{fill, store};
+use crate::view::View;
+use crate::write::write;
 use base::Base;
 
 pub(crate) fn first_block(base: &Base) -> Block
@@ -27,13 +28,15 @@ pub(crate) fn first_block(base: &Base) -> Block
     }
 }
 
+// The block follows from the base, and is handed on and not worked out again: six functions read it, and `first_block (shape base.now)` in
+// the place of `b` would make each of their clauses longer.
 fn write_ends(table: &mut [u32], b: Block, base: &Base)
     requires block { b ≡ first_block (shape base.now) }
     requires within { 16 * b.corners ≤ length table.old }
     ensures written { (h : ℕ) → h < 2 * b.edges → slice_index table.new (begins b Ends + h) ≡ end_at (surface (shape base.now)) h }
     ensures kept { Keeps table.old table.new (begins b Ends) (begins b Ends + 2 * b.edges) }
 {
-    let at = start(b, Array::Ends);
+    let at = b.start(Array::Ends);
     for (e, edge) in base.edge_sides().iter().enumerate() {
         store(table, at + 2 * e, edge.tail as usize);
         store(table, at + 2 * e + 1, edge.head as usize);
@@ -49,9 +52,10 @@ fn write_halves(table: &mut [u32], b: Block, base: &Base)
     ensures written { (c : ℕ) → c < b.corners → slice_index table.new (begins b Halves + c) ≡ corner_half (surface (shape base.now)) c }
     ensures kept { Keeps table.old table.new (begins b Halves) (begins b Halves + b.corners) }
 {
-    let at = start(b, Array::Halves);
+    let at = b.start(Array::Halves);
     for (c, side) in base.face_sides().iter().enumerate() {
-        let half = find_half(table, b, side.tail as usize, side.head as usize);
+        let view = View { table, block: b };
+        let half = view.find_half(side.tail as usize, side.head as usize);
         store(table, at + c, half);
     }
 }
@@ -63,9 +67,9 @@ fn write_faces(table: &mut [u32], b: Block, base: &Base)
     ensures written { (c : ℕ) → c < b.corners → slice_index table.new (begins b Faces + c) ≡ (surface (shape base.now)).face c }
     ensures kept { Keeps table.old table.new (begins b Faces) (begins b Faces + b.corners) }
 {
-    let mut at = start(b, Array::Faces);
+    let mut at = b.start(Array::Faces);
     for (face, size) in base.face_sizes().iter().enumerate() {
-        fill(table, at, *size, face);
+        fill(table, at, *size, face as u32);
         at += *size;
     }
 }
@@ -76,22 +80,29 @@ fn write_curves(table: &mut [u32], b: Block, base: &Base)
     ensures written { (e : ℕ) → e < b.edges → slice_index table.new (begins b Curves + e) ≡ mark (surface (shape base.now)) e }
     ensures kept { Keeps table.old table.new (begins b Curves) (begins b Curves + b.edges) }
 {
-    let at = start(b, Array::Curves);
-    for (e, curve) in base.curve_marks().iter().enumerate() {
-        store(table, at + e, *curve as usize);
-    }
+    let marks = base.curve_marks();
+    write(
+        table,
+        b.start(Array::Curves),
+        marks.len(),
+        |_, edge| marks[edge] as usize,
+    );
 }
 
+// Not one function with `write_curves`: what the two write is said by two definitions, and the loop is already in `write`.
 fn write_dimensions(table: &mut [u32], b: Block, base: &Base)
     requires block { b ≡ first_block (shape base.now) }
     requires within { 16 * b.corners ≤ length table.old }
     ensures written { (v : ℕ) → v < b.vertices → slice_index table.new (begins b Dimensions + v) ≡ (surface (shape base.now)).dimension v }
     ensures kept { Keeps table.old table.new (begins b Dimensions) (begins b Dimensions + b.vertices) }
 {
-    let at = start(b, Array::Dimensions);
-    for (v, dimension) in base.dimensions().iter().enumerate() {
-        store(table, at + v, *dimension as usize);
-    }
+    let dimensions = base.dimensions();
+    write(
+        table,
+        b.start(Array::Dimensions),
+        dimensions.len(),
+        |_, vertex| dimensions[vertex] as usize,
+    );
 }
 
 // Writes what stands for the coarsest level.

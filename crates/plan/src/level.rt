@@ -1,202 +1,159 @@
 // The level that a block stands for, and the next finer one, read number by number.
-ghost use Rattle.std.specs.Prelude.{◌≡◌, ◌+◌, ◌*◌, ◌^◌, ◌<◌, ◌≤◌};
-ghost use Rattle.levels.specs.Finer.{finer, half_at};
-ghost use Rattle.plan.specs.Decoded.{decoded, start_of, end_at, corner_half, mark};
+ghost use Rattle.std.specs.Prelude.{◌≡◌, ◌+◌, ◌*◌, ◌^◌, ◌<◌, ◌≤◌, if◌then◌else◌, nat_eq};
+ghost use Rattle.levels.specs.Finer.{finer, half_at as half_of};
+ghost use Rattle.plan.specs.Decoded.{shown, end_at, corner_half};
 ghost use Rattle.plan.specs.Layout.{reads};
+ghost use Rattle.plan.specs.declared.block.Array.TheVariants.{Ends};
 
-use crate::block::{Array, Block, entry};
+use crate::block::Array;
+use crate::view::View;
 
-// Where an edge runs from.
-fn tail(table: &[u32], b: Block, edge: usize) -> usize
-    requires { edge < 2 ^ 60 }
-    ensures value { result ≡ (decoded table.now b).tail edge }
-    ensures small { result < 2 ^ 32 }
-{
-    entry(table, b, Array::Ends, 2 * edge)
-}
-
-fn head(table: &[u32], b: Block, edge: usize) -> usize
-    requires { edge < 2 ^ 60 }
-    ensures value { result ≡ (decoded table.now b).head edge }
-    ensures small { result < 2 ^ 32 }
-{
-    entry(table, b, Array::Ends, 2 * edge + 1)
-}
-
-pub(crate) fn vertex(table: &[u32], b: Block, corner: usize) -> usize
-    ensures value { result ≡ (decoded table.now b).vertex corner }
-    ensures small { result < 2 ^ 32 }
-{
-    entry(
-        table,
-        b,
-        Array::Ends,
-        entry(table, b, Array::Halves, corner),
-    )
-}
-
-pub(crate) fn side(table: &[u32], b: Block, corner: usize) -> usize
-    ensures value { result ≡ (decoded table.now b).side corner }
-    ensures small { result < 2 ^ 32 }
-{
-    entry(table, b, Array::Halves, corner) / 2
-}
-
-// Where list `k` begins: where the one before it ends.
-pub(crate) fn list_start(table: &[u32], b: Block, ends: Array, k: usize) -> usize
-    ensures value { result ≡ start_of (reads table.now b ends) k }
-    ensures small { result < 2 ^ 32 }
-{
-    if k == 0 {
-        0
-    } else {
-        entry(table, b, ends, k - 1)
-    }
-}
-
-// The corner before this one round its face.
-fn back(table: &[u32], b: Block, corner: usize) -> usize
-    requires { corner < 2 ^ 40 }
-    ensures value { result ≡ (decoded table.now b).back corner }
-    ensures small { result < 2 ^ 40 }
-{
-    let face = entry(table, b, Array::Faces, corner);
-    if corner == list_start(table, b, Array::FaceEnds, face) {
-        entry(table, b, Array::FaceEnds, face).saturating_sub(1)
-    } else {
-        corner.saturating_sub(1)
-    }
-}
-
-// The half of an edge that ends at a vertex.
-fn half_at(table: &[u32], b: Block, edge: usize, vertex: usize) -> usize
-    requires { edge < 2 ^ 60 }
-    ensures value { result ≡ half_at (decoded table.now b) edge vertex }
+// The half of an edge that ends at a vertex, by where the edge runs from.
+fn half_at(edge: usize, tail: usize, vertex: usize) -> usize
+    requires { edge < 2 ^ 63 }
+    ensures value { result ≡ 2 * edge + (if nat_eq tail vertex then 0 else 1) }
     ensures small { result ≤ 2 * edge + 1 }
 {
-    if tail(table, b, edge) == vertex {
+    if tail == vertex {
         2 * edge
     } else {
         2 * edge + 1
     }
 }
 
-// Of the next finer level, where an edge runs from.
-fn fine_tail(table: &[u32], b: Block, edge: usize) -> usize
-    requires { edge < 2 ^ 60 }
-    ensures { result ≡ (finer (decoded table.now b)).tail edge }
-{
-    let halves = 2 * b.edges as usize;
-    if edge >= halves {
-        return b.vertices as usize + side(table, b, edge - halves);
+impl View<'_> {
+    // The vertex of a half edge.
+    pub(crate) fn end(&self, half: usize) -> usize
+        ensures value { result ≡ reads self.now.table.now self.now.block Ends half }
+        ensures small { result < 2 ^ 32 }
+    {
+        self.entry(Array::Ends, half)
     }
-    if edge % 2 == 0 {
-        tail(table, b, edge / 2)
-    } else {
-        b.vertices as usize + edge / 2
-    }
-}
 
-fn fine_head(table: &[u32], b: Block, edge: usize) -> usize
-    requires { edge < 2 ^ 60 }
-    ensures { result ≡ (finer (decoded table.now b)).head edge }
-{
-    let halves = 2 * b.edges as usize;
-    if edge >= halves {
-        let face = entry(table, b, Array::Faces, edge - halves);
-        return b.vertices as usize + b.edges as usize + face;
+    pub(crate) fn vertex(&self, corner: usize) -> usize
+        ensures value { result ≡ (shown self.now).vertex corner }
+        ensures small { result < 2 ^ 32 }
+    {
+        self.end(self.entry(Array::Halves, corner))
     }
-    if edge % 2 == 0 {
-        b.vertices as usize + edge / 2
-    } else {
-        head(table, b, edge / 2)
-    }
-}
 
-fn fine_vertex(table: &[u32], b: Block, corner: usize) -> usize
-    requires { corner < 2 ^ 40 }
-    ensures { result ≡ (finer (decoded table.now b)).vertex corner }
-{
-    let from = corner / 4;
-    match corner % 4 {
-        0 => vertex(table, b, from),
-        1 => b.vertices as usize + side(table, b, from),
-        2 => b.vertices as usize + b.edges as usize + entry(table, b, Array::Faces, from),
-        _ => b.vertices as usize + side(table, b, back(table, b, from)),
+    pub(crate) fn side(&self, corner: usize) -> usize
+        ensures value { result ≡ (shown self.now).side corner }
+        ensures small { result < 2 ^ 32 }
+    {
+        self.entry(Array::Halves, corner) / 2
     }
-}
 
-fn fine_side(table: &[u32], b: Block, corner: usize) -> usize
-    requires { corner < 2 ^ 40 }
-    ensures value { result ≡ (finer (decoded table.now b)).side corner }
-    ensures small { result < 2 ^ 50 }
-{
-    let from = corner / 4;
-    match corner % 4 {
-        0 => half_at(table, b, side(table, b, from), vertex(table, b, from)),
-        1 => 2 * b.edges as usize + from,
-        2 => 2 * b.edges as usize + back(table, b, from),
-        _ => half_at(
-            table,
-            b,
-            side(table, b, back(table, b, from)),
-            vertex(table, b, from),
-        ),
+    pub(crate) fn face(&self, corner: usize) -> usize
+        ensures value { result ≡ (shown self.now).face corner }
+        ensures small { result < 2 ^ 32 }
+    {
+        self.entry(Array::Faces, corner)
     }
-}
 
-// The vertex of a half edge of the next finer level.
-pub(crate) fn fine_end(table: &[u32], b: Block, half: usize) -> usize
-    requires { half < 2 ^ 40 }
-    ensures { result ≡ end_at (finer (decoded table.now b)) half }
-{
-    if half % 2 == 0 {
-        fine_tail(table, b, half / 2)
-    } else {
-        fine_head(table, b, half / 2)
+    fn curve(&self, edge: usize) -> bool
+        ensures { result ≡ (shown self.now).curve edge }
+    {
+        self.entry(Array::Curves, edge) == 1
     }
-}
 
-// The half edge of a corner of the next finer level.
-pub(crate) fn fine_half(table: &[u32], b: Block, corner: usize) -> usize
-    requires { corner < 2 ^ 40 }
-    ensures { result ≡ corner_half (finer (decoded table.now b)) corner }
-{
-    let side = fine_side(table, b, corner);
-    if fine_tail(table, b, side) == fine_vertex(table, b, corner) {
-        2 * side
-    } else {
-        2 * side + 1
+    // The corner before this one round its face.
+    fn back(&self, corner: usize) -> usize
+        requires { corner < 2 ^ 62 }
+        ensures value { result ≡ (shown self.now).back corner }
+        ensures small { result < 2 ^ 62 }
+    {
+        let face = self.face(corner);
+        if corner == self.list_start(Array::FaceEnds, face) {
+            self.entry(Array::FaceEnds, face).saturating_sub(1)
+        } else {
+            corner.saturating_sub(1)
+        }
     }
-}
 
-// Whether an edge of the next finer level is a curve: 1 or 0.
-pub(crate) fn fine_mark(table: &[u32], b: Block, edge: usize) -> usize
-    ensures { result ≡ mark (finer (decoded table.now b)) edge }
-{
-    if edge >= 2 * b.edges as usize {
-        return 0;
+    // The half of an edge that ends at a vertex.
+    fn half_at(&self, edge: usize, vertex: usize) -> usize
+        requires { edge < 2 ^ 32 }
+        ensures value { result ≡ half_of (shown self.now) edge vertex }
+        ensures small { result ≤ 2 * edge + 1 }
+    {
+        half_at(edge, self.end(2 * edge), vertex)
     }
-    if entry(table, b, Array::Curves, edge / 2) == 1 {
-        1
-    } else {
-        0
-    }
-}
 
-pub(crate) fn fine_dimension(table: &[u32], b: Block, vertex: usize) -> usize
-    ensures { result ≡ (finer (decoded table.now b)).dimension vertex }
-{
-    let vertices = b.vertices as usize;
-    if vertex < vertices {
-        return entry(table, b, Array::Dimensions, vertex);
+    // The vertex of a half edge of the next finer level: an edge's first half runs from its tail, and its second one to its head.
+    pub(crate) fn fine_end(&self, half: usize) -> usize
+        ensures { result ≡ end_at (finer (shown self.now)) half }
+    {
+        let vertices = self.block.vertices as usize;
+        let edges = self.block.edges as usize;
+        if half >= 4 * edges {
+            let corner = half / 2 - 2 * edges;
+            return if half % 2 == 0 {
+                vertices + self.side(corner)
+            } else {
+                vertices + edges + self.face(corner)
+            };
+        }
+        match half % 4 {
+            0 | 3 => self.end(half / 2),
+            _ => vertices + half / 4,
+        }
     }
-    if vertex >= vertices + b.edges as usize {
-        return 2;
+
+    fn fine_vertex(&self, corner: usize) -> usize
+        ensures { result ≡ (finer (shown self.now)).vertex corner }
+    {
+        let vertices = self.block.vertices as usize;
+        let from = corner / 4;
+        match corner % 4 {
+            0 => self.vertex(from),
+            1 => vertices + self.side(from),
+            2 => vertices + self.block.edges as usize + self.face(from),
+            _ => vertices + self.side(self.back(from)),
+        }
     }
-    if entry(table, b, Array::Curves, vertex - vertices) == 1 {
-        1
-    } else {
-        2
+
+    fn fine_side(&self, corner: usize) -> usize
+        ensures value { result ≡ (finer (shown self.now)).side corner }
+        ensures small { result < 2 ^ 63 }
+    {
+        let edges = self.block.edges as usize;
+        let from = corner / 4;
+        match corner % 4 {
+            0 => self.half_at(self.side(from), self.vertex(from)),
+            1 => 2 * edges + from,
+            2 => 2 * edges + self.back(from),
+            _ => self.half_at(self.side(self.back(from)), self.vertex(from)),
+        }
+    }
+
+    // The half edge of a corner of the next finer level.
+    pub(crate) fn fine_half(&self, corner: usize) -> usize
+        ensures { result ≡ corner_half (finer (shown self.now)) corner }
+    {
+        let side = self.fine_side(corner);
+        half_at(side, self.fine_end(2 * side), self.fine_vertex(corner))
+    }
+
+    // Whether an edge of the next finer level is a curve.
+    pub(crate) fn fine_curve(&self, edge: usize) -> bool
+        ensures { result ≡ (finer (shown self.now)).curve edge }
+    {
+        edge < 2 * self.block.edges as usize && self.curve(edge / 2)
+    }
+
+    pub(crate) fn fine_dimension(&self, vertex: usize) -> usize
+        ensures { result ≡ (finer (shown self.now)).dimension vertex }
+    {
+        let vertices = self.block.vertices as usize;
+        if vertex < vertices {
+            return self.entry(Array::Dimensions, vertex);
+        }
+        let edge = vertex - vertices;
+        if edge < self.block.edges as usize && self.curve(edge) {
+            1
+        } else {
+            2
+        }
     }
 }

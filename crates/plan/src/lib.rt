@@ -15,7 +15,7 @@ mod refining;
 mod scatter;
 mod settling;
 mod span;
-mod tell;
+mod view;
 mod write;
 
 pub use plan::Plan;

@@ -3,52 +3,75 @@ ghost use Rattle.std.specs.Prelude.{◌≡◌, ◌+◌, ◌*◌, ◌^◌, ◌<�
 ghost use Rattle.plan.specs.Layout.{begins};
 ghost use Rattle.plan.specs.Loaded.{listed, stands, loaded_curve, loaded_dimension, span_in, span_of};
 
-use crate::block::{Array, Block, start};
+use crate::block::Array;
 use crate::scatter::load;
 use crate::span::Span;
+use crate::view::View;
 use hierarchy::Link;
 
-// List `i` of those that stand in a row, by where each ends.
-fn span_in(table: &[u32], b: Block, ends: Array, list: Array, i: usize) -> Span
-    requires { i < 2 ^ 32 }
-    ensures { stands result ≡ span_in table.now (begins b ends) (begins b list) i }
-{
-    let ends = start(b, ends);
-    let first = if i == 0 {
-        0
-    } else {
-        load(table, ends + (i - 1))
-    };
-    Span {
-        from: start(b, list) + first,
-        count: load(table, ends + i).saturating_sub(first),
+impl View<'_> {
+    // List `i` of those that stand in a row, by where each ends.
+    fn span_in(&self, ends: Array, list: Array, i: usize) -> Span
+        requires { i < 2 ^ 32 }
+        ensures { stands result ≡ span_in self.now.table.now (begins self.now.block ends) (begins self.now.block list) i }
+    {
+        let ends = self.block.start(ends);
+        let first = if i == 0 {
+            0
+        } else {
+            load(self.table, ends + (i - 1))
+        };
+        Span {
+            from: self.block.start(list) + first,
+            count: load(self.table, ends + i).saturating_sub(first),
+        }
     }
-}
 
-pub(crate) fn find_span(table: &[u32], b: Block, link: Link, of: usize) -> Span
-    ensures { stands result ≡ span_of table.now b link of }
-{
-    match link {
-        Link::EdgeEnds if of < b.edges as usize => Span {
-            from: start(b, Array::Ends) + 2 * of,
-            count: 2,
-        },
-        Link::EdgeFaces if of < b.edges as usize => {
-            span_in(table, b, Array::EdgeCornerEnds, Array::EdgeCorners, of)
+    pub(crate) fn find_span(&self, link: Link, of: usize) -> Span
+        ensures { stands result ≡ span_of self.now.table.now self.now.block link of }
+    {
+        let vertices = self.block.vertices as usize;
+        let edges = self.block.edges as usize;
+        let faces = self.block.faces as usize;
+        match link {
+            Link::EdgeEnds if of < edges => Span {
+                from: self.block.start(Array::Ends) + 2 * of,
+                count: 2,
+            },
+            Link::EdgeFaces if of < edges => {
+                self.span_in(Array::EdgeCornerEnds, Array::EdgeCorners, of)
+            }
+            Link::FaceVertices if of < faces => {
+                self.span_in(Array::FaceEnds, Array::FaceByVertex, of)
+            }
+            Link::FaceEdges if of < faces => self.span_in(Array::FaceEnds, Array::FaceByEdge, of),
+            Link::VertexEdges if of < vertices => {
+                self.span_in(Array::VertexHalfEnds, Array::VertexHalves, of)
+            }
+            Link::VertexFaces if of < vertices => {
+                self.span_in(Array::VertexCornerEnds, Array::VertexCorners, of)
+            }
+            _ => Span::none(),
         }
-        Link::FaceVertices if of < b.faces as usize => {
-            span_in(table, b, Array::FaceEnds, Array::FaceByVertex, of)
+    }
+
+    // Whether an edge is a curve.
+    pub(crate) fn is_curve(&self, edge: usize) -> bool
+        ensures { result ≡ loaded_curve self.now.table.now self.now.block edge }
+    {
+        edge < self.block.edges as usize
+            && load(self.table, self.block.start(Array::Curves) + edge) == 1
+    }
+
+    // A vertex's dimension.
+    pub(crate) fn dimension(&self, vertex: usize) -> usize
+        ensures { result ≡ loaded_dimension self.now.table.now self.now.block vertex }
+    {
+        if vertex < self.block.vertices as usize {
+            load(self.table, self.block.start(Array::Dimensions) + vertex)
+        } else {
+            0
         }
-        Link::FaceEdges if of < b.faces as usize => {
-            span_in(table, b, Array::FaceEnds, Array::FaceByEdge, of)
-        }
-        Link::VertexEdges if of < b.vertices as usize => {
-            span_in(table, b, Array::VertexHalfEnds, Array::VertexHalves, of)
-        }
-        Link::VertexFaces if of < b.vertices as usize => {
-            span_in(table, b, Array::VertexCornerEnds, Array::VertexCorners, of)
-        }
-        _ => Span { from: 0, count: 0 },
     }
 }
 
@@ -58,24 +81,6 @@ pub(crate) fn member(table: &[u32], list: Span, k: usize) -> usize
 {
     if k < list.count {
         load(table, list.from + k)
-    } else {
-        0
-    }
-}
-
-// Whether an edge is a curve.
-pub(crate) fn is_curve(table: &[u32], b: Block, edge: usize) -> bool
-    ensures { result ≡ loaded_curve table.now b edge }
-{
-    edge < b.edges as usize && load(table, start(b, Array::Curves) + edge) == 1
-}
-
-// A vertex's dimension.
-pub(crate) fn dimension(table: &[u32], b: Block, vertex: usize) -> usize
-    ensures { result ≡ loaded_dimension table.now b vertex }
-{
-    if vertex < b.vertices as usize {
-        load(table, start(b, Array::Dimensions) + vertex)
     } else {
         0
     }

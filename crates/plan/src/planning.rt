@@ -1,16 +1,16 @@
 // Planning a base: judging how many levels it takes and what table they need, and filling the table.
-ghost use Rattle.std.specs.Prelude.{◌≡◌, ◌+◌, ◌≤◌, IfOk, Ok, Err, vec_len, MatchResult, OnErr, OnOk, nat_lt};
-ghost use Rattle.mesh.specs.Lowest.{lowest};
-ghost use Rattle.mesh.specs.Reading.{reading, unless};
+ghost use Rattle.std.specs.Prelude.{◌≡◌, ◌+◌, ◌≤◌, IfOk, Ok, Err, vec_len, MatchResult, OnErr, OnOk, nat_lt, position};
+ghost use Rattle.mesh.specs.Reading.{reading};
 ghost use Rattle.mesh.specs.Shape.{starting};
 ghost use Rattle.base.specs.Bases.{shape};
 ghost use Rattle.base.specs.Drafts.{Failed};
 ghost use Rattle.levels.specs.Incidence.{hierarchy};
 ghost use Rattle.levels.specs.Refined.{Refined};
 ghost use Rattle.levels.specs.Surfaces.{surface};
-ghost use Rattle.plan.specs.Planning.{need, planned, planned_bytes, over, block_of};
+ghost use Rattle.plan.specs.Planning.{need, planned, planned_bytes};
 ghost use Rattle.plan.specs.Plans.{means, Planned, PlannedBytes};
 ghost use Rattle.plan.specs.Surveys.{Surveyed};
+ghost use Rattle.plan.specs.declared.block.Block.{Block};
 
 use crate::block::Block;
 use crate::building::{fill_levels, lay_out};
@@ -21,17 +21,11 @@ use refusal::{Fault, Refusal};
 use std::alloc::{AllocError, Global};
 use std::mem;
 
-// Refuses the first level that has too many vertices.
-fn check_vertices(blocks: [Block; 6], levels: usize) -> Result<(), Refusal>
-    requires { levels ≤ 5 }
-    ensures { result ≡ unless (over (lowest (λ j. nat_lt 65536 (block_of blocks j).vertices) (levels + 1))) (Ok tt) }
+// The first block with too many vertices.
+fn too_fine(blocks: &[Block]) -> Option<usize>
+    ensures { result ≡ position (λ (b : Block). nat_lt 65536 b.vertices) blocks.now }
 {
-    for j in 0..levels + 1 {
-        if blocks[j].vertices > 65_536 {
-            return Err(Refusal::TooFine(j));
-        }
-    }
-    Ok(())
+    blocks.iter().position(|b| b.vertices > 65_536)
 }
 
 // Where the levels of a base stand, if there are neither too many levels nor too many vertices.
@@ -42,8 +36,10 @@ fn survey(base: &Base, levels: usize) -> Result<[Block; 6], Refusal>
         return Err(Refusal::LevelCount(levels));
     }
     let blocks = lay_out(base, levels);
-    check_vertices(blocks, levels)?;
-    Ok(blocks)
+    match too_fine(&blocks[..levels + 1]) {
+        Some(level) => Err(Refusal::TooFine(level)),
+        None => Ok(blocks),
+    }
 }
 
 // How many numbers the table of a plan of so many levels needs. That no refined vertex has more than 8 edges is not asked: it never has.

@@ -1,29 +1,48 @@
 // A plan's answers to the questions of a hierarchy: each is a few loads from its table.
-ghost use Rattle.std.specs.Prelude.{◌≡◌, ◌≤◌};
+ghost use Rattle.std.specs.Prelude.{◌≡◌, Some, None, MatchOption, false, true, if◌then◌else◌, nat_le, nat_lt};
 ghost use Rattle.hierarchy.proofs.Certain.{lawful_from};
 ghost use Rattle.plan.specs.Planning.{block_of};
 ghost use Rattle.plan.specs.Plans.{means};
 ghost use Rattle.plan.specs.Loaded.{listed};
 
 use crate::block::Block;
-use crate::loading;
+use crate::loading::member;
 use crate::plan::Plan;
 use crate::span::Span;
+use crate::view::View;
 use hierarchy::{Hierarchy, Link};
 
 impl Plan {
-    fn block(&self, level: usize) -> Block
-        requires { level ≤ self.now.levels }
-        ensures { result ≡ block_of self.now.blocks level }
+    // The block of a level, if there is such a level.
+    fn block(&self, level: usize) -> Option<Block>
+        ensures { result ≡ (if nat_le level self.now.levels then Some (block_of self.now.blocks level) else None) }
     {
-        self.blocks[level]
+        if level <= self.levels {
+            Some(self.blocks[level])
+        } else {
+            None
+        }
+    }
+
+    // What stands in the table of a level, if it is below the finest.
+    fn view(&self, level: usize) -> Option<View<'_>>
+        ensures { MatchOption result (nat_lt level self.now.levels ≡ false) (λ v. (nat_lt level self.now.levels ≡ true) × (v.table.now ≡ self.now.table.items) × (v.block ≡ block_of self.now.blocks level)) }
+    {
+        if level < self.levels {
+            Some(View {
+                table: &self.table,
+                block: self.blocks[level],
+            })
+        } else {
+            None
+        }
     }
 
     // How many vertices the finest level has.
     pub fn finest(&self) -> usize
         ensures { result ≡ (means self.now).vertices self.now.levels }
     {
-        self.block(self.levels).vertices as usize
+        self.blocks[self.levels].vertices as usize
     }
 }
 
@@ -41,35 +60,20 @@ impl Hierarchy for Plan {
     }
 
     fn vertices(&self, level: usize) -> usize {
-        if level > self.levels {
-            0
-        } else {
-            self.block(level).vertices as usize
-        }
+        self.block(level).map_or(0, |b| b.vertices as usize)
     }
 
     fn edges(&self, level: usize) -> usize {
-        if level > self.levels {
-            0
-        } else {
-            self.block(level).edges as usize
-        }
+        self.block(level).map_or(0, |b| b.edges as usize)
     }
 
     fn faces(&self, level: usize) -> usize {
-        if level > self.levels {
-            0
-        } else {
-            self.block(level).faces as usize
-        }
+        self.block(level).map_or(0, |b| b.faces as usize)
     }
 
     fn list(&self, level: usize, link: Link, of: usize) -> Span {
-        if level >= self.levels {
-            Span { from: 0, count: 0 }
-        } else {
-            loading::find_span(&self.table, self.block(level), link, of)
-        }
+        self.view(level)
+            .map_or(Span::none(), |view| view.find_span(link, of))
     }
 
     fn list_length(&self, list: Span) -> usize {
@@ -77,18 +81,14 @@ impl Hierarchy for Plan {
     }
 
     fn list_member(&self, list: Span, k: usize) -> usize {
-        loading::member(&self.table, list, k)
+        member(&self.table, list, k)
     }
 
     fn is_curve(&self, level: usize, edge: usize) -> bool {
-        level < self.levels && loading::is_curve(&self.table, self.block(level), edge)
+        self.view(level).is_some_and(|view| view.is_curve(edge))
     }
 
     fn dimension(&self, level: usize, vertex: usize) -> u8 {
-        if level >= self.levels {
-            0
-        } else {
-            loading::dimension(&self.table, self.block(level), vertex) as u8
-        }
+        self.view(level).map_or(0, |view| view.dimension(vertex)) as u8
     }
 }

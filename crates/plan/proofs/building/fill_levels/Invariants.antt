@@ -7,5 +7,5 @@ use Rattle.plan.specs.Sorting.{Keeps}
 use Rattle.plan.proofs.Blocks.{Building}
 use Rattle.plan.proofs.building.fill_levels.Given as goal
 
-abbrev pub invariant-loop-j : goal.invariant-loop-j
-invariant-loop-j l = Building (shape l.base) (rules_from (shape l.base) l.base.rules) l.table l.j × Keeps l.initial.table l.table 0 (needs (surface (shape l.base)) (l.j + 1))
+abbrev pub invariant-loop-block : goal.invariant-loop-block
+invariant-loop-block l = Building (shape l.base) (rules_from (shape l.base) l.base.rules) l.table l.block-index × Keeps l.initial.table l.table 0 (needs (surface (shape l.base)) (l.block-index + 1))

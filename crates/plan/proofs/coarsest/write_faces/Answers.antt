@@ -20,10 +20,7 @@ fill-requires c =
     let many = ap length items ∙ length-map s.faces length in
     let size = ap (λ (l : List ℕ). get_or l f 0) items in
     let more = starts_more s.faces f (omega (arith, many, c.loop-face-test.true)) in
-    record {
-      within = omega (arith, c.start-at.ensures.value, n.1, n.0.corners, c.requires.within, c.loop-face.auto.table, c.loop-face.invariant.0, size, more, starts_within s.faces (f + 1));
-      small = omega (arith, many, c.loop-face-test.true, rules.most_faces);
-    }
+    omega (arith, c.start-at.ensures.value, n.1, n.0.corners, c.requires.within, c.loop-face.auto.table, c.loop-face.invariant.0, size, more, starts_within s.faces (f + 1))
 
 pub overflow_add-at : goal.overflow_add-at
 overflow_add-at c =

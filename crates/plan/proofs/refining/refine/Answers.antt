@@ -1,7 +1,11 @@
-use Rattle.std.proofs.Common.{◌≡◌, ℕ, ◌+◌, ◌*◌, ◌≤◌, List, ap, arith}
+use Rattle.std.proofs.Common.{rules, ◌≡◌, ℕ, ◌+◌, ◌*◌, ◌/◌, ◌^◌, ◌<◌, ◌≤◌, List, get_or, sym, ap, ◌∙◌, subst, arith}
+use mir.Val.{bool_byte}
 use Rattle.plan.specs.Sorting.{Keeps}
 use Rattle.plan.proofs.Places.{keeps_none, keeps_then, keeps_wider}
+use Rattle.levels.specs.Finer.{finer}
 use Rattle.levels.specs.Level.{Level}
+use Rattle.plan.specs.Decoded.{decoded, end_at, corner_half, mark}
+use Rattle.plan.proofs.Reading.{level_given, byte}
 use Rattle.plan.specs.declared.block.Block.{Block}
 use Rattle.plan.specs.Written.{Counts, Standing, next}
 use Rattle.plan.proofs.Worked.{next_counts, clears_beyond, small_ends, small_halves, small_marks, small_dimensions, finer_shown}
@@ -34,9 +38,10 @@ write-requires c =
     let p = c.start.ensures.value in
     record {
       within = omega (arith, h.at, h.corners, h.edges, c.requires.within);
-      few = omega (arith, h.edges, c.requires.small);
-      clear = clears_beyond b _ _ (omega (arith, h.at));
-      small = λ i l. small_ends c.args.table.now b c.requires.standing.0 c.requires.standing.1 c.args.table.now (keeps_none _ _ _) c.requires.small i (omega (arith, ap (λ x. x.edges) e));
+      callable = search rules;
+      small = λ i r l w.
+          let v : r ≡ end_at (finer (decoded w.table.now b)) i = search rules in
+          subst (λ (x : ℕ). x < 2 ^ 32) (sym (level_given b (λ d. end_at (finer d) i) (clears_beyond b _ _ (omega (arith, h.at))) w v)) (small_ends c.args.table.now b c.requires.standing.0 c.requires.standing.1 c.args.table.now (keeps_none _ _ _) c.requires.small i (omega (arith, ap (λ x. x.edges) e)));
     }
 
 pub write-requires-2 : goal.write-requires-2
@@ -51,9 +56,10 @@ write-requires-2 c =
     let p = c.start-2.ensures.value in
     record {
       within = omega (arith, h.at, h.corners, h.edges, h.vertices, c.requires.within, c.write.auto.table);
-      few = omega (arith, h.corners, h.edges, h.vertices, c.requires.small);
-      clear = clears_beyond b _ _ (omega (arith, h.at));
-      small = λ i l. small_halves t b m st c.write.new.table k1 c.requires.small i (omega (arith, h.corners));
+      callable = search rules;
+      small = λ i r l w.
+          let v : r ≡ corner_half (finer (decoded w.table.now b)) i = search rules in
+          subst (λ (x : ℕ). x < 2 ^ 32) (sym (level_given b (λ d. corner_half (finer d) i) (clears_beyond b _ _ (omega (arith, h.at))) w v)) (small_halves t b m st c.write.new.table k1 c.requires.small i (omega (arith, h.corners)));
     }
 
 pub write-requires-3 : goal.write-requires-3
@@ -69,9 +75,8 @@ write-requires-3 c =
     let p = c.start-3.ensures.value in
     record {
       within = omega (arith, h.at, h.corners, h.edges, h.vertices, c.requires.within, c.write.auto.table, c.write-2.auto.table);
-      few = omega (arith, h.corners, h.edges, h.vertices, c.requires.small);
-      clear = clears_beyond b _ _ (omega (arith, h.at));
-      small = λ i l. omega (arith, h.corners, c.requires.small);
+      callable = search rules;
+      small = λ i r l w. let v : r ≡ i / 4 = search rules in omega (arith, v, h.corners, c.requires.small);
     }
 
 pub write-requires-4 : goal.write-requires-4
@@ -88,9 +93,11 @@ write-requires-4 c =
     let p = c.start-4.ensures.value in
     record {
       within = omega (arith, h.at, h.corners, h.edges, h.vertices, c.requires.within, c.write.auto.table, c.write-2.auto.table, c.write-3.auto.table);
-      few = omega (arith, h.corners, h.edges, h.vertices, c.requires.small);
-      clear = clears_beyond b _ _ (omega (arith, h.at));
-      small = λ i l. small_marks t b m st c.write-3.new.table k3 c.requires.small i;
+      callable = search rules;
+      small = λ i r l w.
+          let v0 : r ≡ bool_byte ((finer (decoded w.table.now b)).curve i) = search rules in
+          let v = v0 ∙ byte ((finer (decoded w.table.now b)).curve i) in
+          subst (λ (x : ℕ). x < 2 ^ 32) (sym (level_given b (λ d. mark (finer d) i) (clears_beyond b _ _ (omega (arith, h.at))) w v)) (small_marks t b m st c.write-3.new.table k3 c.requires.small i);
     }
 
 pub write-requires-5 : goal.write-requires-5
@@ -108,9 +115,10 @@ write-requires-5 c =
     let p = c.start-5.ensures.value in
     record {
       within = omega (arith, h.at, h.corners, h.edges, h.vertices, c.requires.within, c.write.auto.table, c.write-2.auto.table, c.write-3.auto.table, c.write-4.auto.table);
-      few = omega (arith, h.corners, h.edges, h.vertices, c.requires.small);
-      clear = clears_beyond b _ _ (omega (arith, h.at));
-      small = λ i l. small_dimensions t b m st c.write-4.new.table k4 c.requires.small i (omega (arith, ap (λ x. x.vertices) e));
+      callable = search rules;
+      small = λ i r l w.
+          let v : r ≡ (finer (decoded w.table.now b)).dimension i = search rules in
+          subst (λ (x : ℕ). x < 2 ^ 32) (sym (level_given b (λ d. (finer d).dimension i) (clears_beyond b _ _ (omega (arith, h.at))) w v)) (small_dimensions t b m st c.write-4.new.table k4 c.requires.small i (omega (arith, ap (λ x. x.vertices) e)));
     }
 
 pub returns : goal.returns
@@ -131,6 +139,10 @@ returns c =
       shown = λ m s. finer_shown t c.write.new.table c.write-2.new.table c.write-3.new.table c.write-4.new.table c.write-5.new.table b c.next-to.result m s e
           c.start.result c.start-2.result c.start-3.result c.start-4.result c.start-5.result c.start.ensures.value c.start-2.ensures.value c.start-3.ensures.value c.start-4.ensures.value c.start-5.ensures.value
           k1 k3 k4 c.write-2.ensures.kept c.write-3.ensures.kept c.write-4.ensures.kept c.write-5.ensures.kept
-          c.write.ensures.written c.write-2.ensures.written c.write-3.ensures.written c.write-4.ensures.written c.write-5.ensures.written;
+          (λ i l. let w = c.write.ensures.written i l in let v : get_or c.write.new.table (c.start.result + i) 0 ≡ end_at (finer (decoded w.table.now b)) i = search rules in level_given b (λ d. end_at (finer d) i) (clears_beyond b _ _ (omega (arith, h.at, c.start.ensures.value))) w v)
+          (λ i l. let w = c.write-2.ensures.written i l in let v : get_or c.write-2.new.table (c.start-2.result + i) 0 ≡ corner_half (finer (decoded w.table.now b)) i = search rules in level_given b (λ d. corner_half (finer d) i) (clears_beyond b _ _ (omega (arith, h.at, c.start-2.ensures.value))) w v)
+          (λ i l. let w = c.write-3.ensures.written i l in search rules)
+          (λ i l. let w = c.write-4.ensures.written i l in let v0 : get_or c.write-4.new.table (c.start-4.result + i) 0 ≡ bool_byte ((finer (decoded w.table.now b)).curve i) = search rules in let v = v0 ∙ byte ((finer (decoded w.table.now b)).curve i) in level_given b (λ d. mark (finer d) i) (clears_beyond b _ _ (omega (arith, h.at, c.start-4.ensures.value))) w v)
+          (λ i l. let w = c.write-5.ensures.written i l in let v : get_or c.write-5.new.table (c.start-5.result + i) 0 ≡ (finer (decoded w.table.now b)).dimension i = search rules in level_given b (λ d. (finer d).dimension i) (clears_beyond b _ _ (omega (arith, h.at, c.start-5.ensures.value))) w v);
       kept = k5;
     }

@@ -1,7 +1,7 @@
-use Rattle.std.proofs.Common.{◌≡◌, ℕ, ◌+◌, ◌<◌, get_or}
+use Rattle.std.proofs.Common.{ℕ, ◌+◌, ◌<◌, get_or}
+use Rattle.plan.specs.Giving.{Gives}
 use Rattle.plan.specs.Sorting.{Keeps}
-use Rattle.plan.specs.Decoded.{decoded, valued}
 use Rattle.plan.proofs.write.write.Given as goal
 
 abbrev pub invariant-loop-i : goal.invariant-loop-i
-invariant-loop-i l = ((k : ℕ) → k < l.i → get_or l.table (l.at + k) 0 ≡ valued (decoded l.initial.table l.b) l.kind k) × Keeps l.initial.table l.table l.at (l.at + l.count)
+invariant-loop-i g l = record { written : (k : ℕ) → k < l.i → Gives g.F.Fn l.number l.initial.table l.at k (get_or l.table (l.at + k) 0); kept : Keeps l.initial.table l.table l.at (l.at + l.i) }
