@@ -17,21 +17,22 @@ use Rattle.kinds.specs.PointSums.{modulo}
 use Rattle.kinds.specs.declared.marks.Marks.{Marks}
 use Rattle.kinds.specs.declared.point.Point.{Point}
 use Rattle.kinds.specs.contracts.marks.MarksValueKind.TheImpl as marks-kind
-use Rattle.kinds.specs.contracts.point_kind.PointValueKind.TheImpl as point-kind
+use Rattle.kinds.specs.contracts.point.PointValueKind.TheImpl as point-kind
 use Rattle.schemes.specs.Fractions.{Fraction}
 use Rattle.schemes.specs.Rounding.{rounded}
-use Rattle.schemes.specs.contracts.cubic.CubicScheme.TheImpl as cubic-scheme
-use Rattle.schemes.specs.contracts.linear.LinearScheme.TheImpl as linear-scheme
+use Rattle.schemes.specs.contracts.cubic.Cubic as cubic-type
+use Rattle.schemes.specs.contracts.cubic.CubicFactors.TheImpl as cubic-factors
+use Rattle.schemes.specs.contracts.linear.Linear as linear-type
+use Rattle.schemes.specs.contracts.linear.LinearFactors.TheImpl as linear-factors
 use Rattle.schemes.specs.contracts.marks_scheme.MarksSchemeScheme.TheImpl as scheme-of-marks
+use Rattle.schemes.specs.contracts.spline.AnyScheme.TheImpl as scheme-of-factors
 use Rattle.lifting.specs.HalfSteps.{Rule, rule}
 use Rattle.lifting.specs.Travel.{travelled}
-use Rattle.lifting.specs.declared.points.Spline.{Spline}
-use Rattle.lifting.specs.declared.points.Spline.TheVariants.{Linear, Cubic}
 use Rattle.history.specs.Histories.{Opening, History, begun, values}
 use Rattle.history.specs.Reach.{in_reach}
 use Rattle.history.specs.Rows.{finest}
 use Rattle.history.specs.Runs.{after, answers}
-use Rattle.history.specs.declared.answer.Answer.{Answer}
+use Rattle.history.specs.Answers.{Answer}
 use Rattle.history.specs.declared.call.Call.{Call}
 use Rattle.history.specs.declared.call.Request.{Request}
 
@@ -46,10 +47,12 @@ Have ps ns = (map (λ p. p.x) ps ≡ ns) × (map (λ p. p.y) ps ≡ ns) × (map 
 abbrev pub marks : ℕ → Marks
 marks n = record { flags = n }
 
--- the rules of the schemes of points, and that of marks
-abbrev pub point_rule : Spline → Rule Point
-point_rule Linear = rule linear-scheme.ghosts point-kind.ghosts record {}
-point_rule Cubic = rule cubic-scheme.ghosts point-kind.ghosts record {}
+-- the rules of the two schemes of points, and that of marks
+abbrev pub by_linear : Rule Point
+by_linear = rule (scheme-of-factors.ghosts linear-type.the_row linear-factors.ghosts linear-factors.dict) point-kind.ghosts record {}
+
+abbrev pub by_cubic : Rule Point
+by_cubic = rule (scheme-of-factors.ghosts cubic-type.the_row cubic-factors.ghosts cubic-factors.dict) point-kind.ghosts record {}
 
 abbrev pub marks_rule : Rule Marks
 marks_rule = rule scheme-of-marks.ghosts marks-kind.ghosts record {}
@@ -79,13 +82,13 @@ pub data Row : Type 0 where
   -- a curve, closed or not, of so many points: the vertices along one of its levels
   Along : Bool → ℕ → ℕ → List ℕ → Row
   -- points travel from one depth to another
-  Points : Meaning → Spline → ℕ → ℕ → List ℤ → List ℤ → Row
+  Points : Meaning → Rule Point → ℕ → ℕ → List ℤ → List ℤ → Row
   -- so do marks
   Flags : Meaning → ℕ → ℕ → List ℕ → List ℕ → Row
   -- a form was opened and asked these requests: what stands at every place
-  Stored : Meaning → Spline → Opening Point → List (Request Point) → List ℤ → Row
+  Stored : Meaning → Rule Point → Opening Point → List (Request Point) → List ℤ → Row
   -- what it answered
-  Answered : Meaning → Spline → Opening Point → List (Request Point) → List (Answer Point) → Row
+  Answered : Meaning → Rule Point → Opening Point → List (Request Point) → List (Answer Point) → Row
   -- the reach of one place
   Reached : Meaning → Opening Point → List (Request Point) → ℕ → List ℕ → Row
 
@@ -96,8 +99,8 @@ Holds (Listed m j link i numbers) = m.list j link i ≡ numbers
 Holds (Need base levels verdict) = need (surface base) levels ≡ verdict
 Holds (Rounding q r) = rounded q ≡ r
 Holds (Along closed n j numbers) = map (number_at (curve_level closed n) j) (range_with_len 0 (level (curve_level closed n) j).vertices) ≡ numbers
-Holds (Points m scheme from to before left) = Have (travelled m (point_rule scheme) from to (map point before)) left
+Holds (Points m by from to before left) = Have (travelled m by from to (map point before)) left
 Holds (Flags m from to before left) = travelled m marks_rule from to (map marks before) ≡ map marks left
-Holds (Stored m scheme opening requests left) = Have (values m (point_rule scheme) (history_of m opening requests)) left
-Holds (Answered m scheme opening requests replies) = answers m (point_rule scheme) (begun opening) (whole_calls m opening requests) ≡ replies
+Holds (Stored m by opening requests left) = Have (values m by (history_of m opening requests)) left
+Holds (Answered m by opening requests replies) = answers m by (begun opening) (whole_calls m opening requests) ≡ replies
 Holds (Reached m opening requests place reach) = those (in_reach m (nat_eq place) (history_of m opening requests)) (finest m) ≡ reach

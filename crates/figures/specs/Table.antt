@@ -11,12 +11,11 @@ use Rattle.levels.specs.Incidence.{hierarchy}
 use Rattle.levels.specs.Surfaces.{surface}
 use Rattle.kinds.specs.declared.point.Point.{Point}
 use Rattle.schemes.specs.Fractions.{quotient}
-use Rattle.lifting.specs.declared.points.Spline.TheVariants.{Linear, Cubic}
 use Rattle.history.specs.Histories.{Opening}
-use Rattle.history.specs.declared.answer.Answer.TheVariants.{Depth, Count, Refused}
+use Rattle.history.specs.declared.answer.Reply.TheVariants.{Depth, Count}
 use Rattle.history.specs.declared.call.Request.{Request}
 use Rattle.history.specs.declared.call.Request.TheVariants.{Analyse, Synthesise, Move, TakeBack}
-use Rattle.figures.specs.Rows.{Row, point, Holds}
+use Rattle.figures.specs.Rows.{Row, point, by_linear, by_cubic, Holds}
 use Rattle.figures.specs.Rows.Row.{Read, Counts, Listed, Need, Rounding, Along, Points, Flags, Stored, Answered, Reached}
 
 abbrev minus : ℕ → ℤ
@@ -98,24 +97,24 @@ table =
     ∷ Rounding (quotient (minus 1) 2 (lit< tt)) (pos 0)
     ∷ Rounding (quotient (minus 11) 2 (lit< tt)) (minus 5)
     ∷ Along false 2 2 (0 ∷ 3 ∷ 2 ∷ 4 ∷ 1 ∷ [])
-    ∷ Points (closed_curve 3 1) Linear 1 0 six six_analysed
-    ∷ Points (closed_curve 3 1) Linear 0 1 six_analysed six
-    ∷ Points (closed_curve 3 1) Cubic 1 0 (replicate 6 (pos 8)) (replicate 3 (pos 4) ++ replicate 3 (pos 0))
-    ∷ Points (planned cube 1) Cubic 1 0 (replicate 26 (pos 64)) (replicate 8 (pos 16) ++ replicate 18 (pos 0))
-    ∷ Points (planned quadrilateral 1) Linear 1 0 nine nine_analysed
-    ∷ Points (planned quadrilateral 1) Linear 0 1 nine_analysed nine
-    ∷ Points (planned quadrilateral 1) Linear 1 0 two_halves (map pos (1 ∷ 1 ∷ 0 ∷ 0 ∷ []) ++ minus 2 ∷ map pos (0 ∷ 0 ∷ 0 ∷ 1 ∷ []))
-    ∷ Stored (planned quadrilateral 1) Linear (opened 1 nine) moved (map pos (4 ∷ 10 ∷ 20 ∷ 30 ∷ 8 ∷ 15 ∷ 25 ∷ 16 ∷ 17 ∷ []))
+    ∷ Points (closed_curve 3 1) by_linear 1 0 six six_analysed
+    ∷ Points (closed_curve 3 1) by_linear 0 1 six_analysed six
+    ∷ Points (closed_curve 3 1) by_cubic 1 0 (replicate 6 (pos 8)) (replicate 3 (pos 4) ++ replicate 3 (pos 0))
+    ∷ Points (planned cube 1) by_cubic 1 0 (replicate 26 (pos 64)) (replicate 8 (pos 16) ++ replicate 18 (pos 0))
+    ∷ Points (planned quadrilateral 1) by_linear 1 0 nine nine_analysed
+    ∷ Points (planned quadrilateral 1) by_linear 0 1 nine_analysed nine
+    ∷ Points (planned quadrilateral 1) by_linear 1 0 two_halves (map pos (1 ∷ 1 ∷ 0 ∷ 0 ∷ []) ++ minus 2 ∷ map pos (0 ∷ 0 ∷ 0 ∷ 1 ∷ []))
+    ∷ Stored (planned quadrilateral 1) by_linear (opened 1 nine) moved (map pos (4 ∷ 10 ∷ 20 ∷ 30 ∷ 8 ∷ 15 ∷ 25 ∷ 16 ∷ 17 ∷ []))
     ∷ Reached (planned quadrilateral 1) (opened 1 nine) moved 0 (0 ∷ 4 ∷ 7 ∷ 8 ∷ [])
-    ∷ Stored (planned quadrilateral 1) Linear (opened 1 nine) taken_back nine
-    ∷ Answered (planned quadrilateral 1) Linear (opened 1 nine) taken_back (Depth 0 ∷ Count 1 ∷ Depth 1 ∷ Count 0 ∷ [])
+    ∷ Stored (planned quadrilateral 1) by_linear (opened 1 nine) taken_back nine
+    ∷ Answered (planned quadrilateral 1) by_linear (opened 1 nine) taken_back (Ok (Depth 0) ∷ Ok (Count 1) ∷ Ok (Depth 1) ∷ Ok (Count 0) ∷ [])
     ∷ Flags (open_curve 2 1) 1 0 (5 ∷ 4 ∷ 6 ∷ []) (5 ∷ 4 ∷ 2 ∷ [])
-    ∷ Stored (open_curve 2 1) Linear (opened 1 (pos 2147483647 ∷ pos 0 ∷ pos 0 ∷ [])) (Move 0 (point (pos 1)) ∷ []) (minus 2147483648 ∷ pos 0 ∷ pos 0 ∷ [])
+    ∷ Stored (open_curve 2 1) by_linear (opened 1 (pos 2147483647 ∷ pos 0 ∷ pos 0 ∷ [])) (Move 0 (point (pos 1)) ∷ []) (minus 2147483648 ∷ pos 0 ∷ pos 0 ∷ [])
     ∷ Need cube 5 (Ok 130944)
     ∷ Need cube 6 (Err (LevelCount 6))
     ∷ Read (fan 8) (Ok (fan 8))
     ∷ Read (fan 9) (Err (BadValence 0))
-    ∷ Answered (open_curve 2 1) Linear (opened 1 (replicate 3 (pos 0))) (Move 0 (point (pos 1)) ∷ Move 1 (point (pos 1)) ∷ []) (Count 1 ∷ Refused (ListFull 1) ∷ [])
+    ∷ Answered (open_curve 2 1) by_linear (opened 1 (replicate 3 (pos 0))) (Move 0 (point (pos 1)) ∷ Move 1 (point (pos 1)) ∷ []) (Ok (Count 1) ∷ Err (ListFull 1) ∷ [])
     ∷ []
 
 unfoldable pub EveryRowHolds : Type 0

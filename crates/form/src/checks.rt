@@ -1,129 +1,119 @@
-// What a call is refused for, down the table of refusals.
-ghost use Rattle.std.specs.Prelude.{◌≡◌, ◌<◌, slice_index_or};
-ghost use Rattle.history.specs.Rows.{opening_verdict, lent_verdict, request_verdict, unless_passed};
-ghost use Rattle.history.specs.Memory.{lending, no_slot, names, call_verdict, memory_verdict};
-ghost use Rattle.refusal.specs.declared.Refusal.TheVariants.{SpoiledSlot};
+// What an opening and a call are refused for, down the table of refusals.
+ghost use Rattle.std.specs.Prelude.{◌≡◌, ◌<◌, ◌≤◌, [], Ok, Err, length, IfOk, IfErr, OnOk, MatchResult};
+ghost use Rattle.lifting.specs.HalfSteps.{rule};
+ghost use Rattle.history.specs.Rows.{finest, opening_verdict, lent_verdict, request_verdict};
+ghost use Rattle.history.specs.Memory.{lending, last_slot, slot_verdict, call_verdict, Passed, Kept};
+ghost use Rattle.history.specs.declared.call.Request.TheVariants.{TakeBack as TakingBack};
 
+use crate::form::{Form, Setting};
 use hierarchy::{Hierarchy, is_uniform};
 use history::{Request, Slot, State};
-use kinds::ValueKind;
 use refusal::Refusal;
 use schemes::Scheme;
 
 // No move list is longer.
 const MOST_SLOTS: usize = 4096;
 
-// How many places there are.
-fn places<H: Hierarchy>(h: &H) -> usize
-    ensures { result ≡ (H.meaning h.now).vertices (H.meaning h.now).levels }
-{
-    h.vertices(h.levels())
-}
-
-pub(crate) fn check_opening<H: Hierarchy, S: Scheme>(
-    h: &H,
-    s: &S,
-    points: usize,
-    slots: usize,
-    depth: usize,
-) -> Result<(), Refusal>
-    ensures { result ≡ opening_verdict (H.meaning h.now) (S.Scheme.uniform s.now) points slots depth }
-{
-    if s.needs_uniform() && !is_uniform(h) {
-        return Err(Refusal::NotUniform);
-    }
-    if points != places(h) {
-        return Err(Refusal::WrongLength(points));
-    }
-    if slots > MOST_SLOTS {
-        return Err(Refusal::WrongLength(slots));
-    }
-    if depth > h.levels() {
-        return Err(Refusal::NoSuchDepth(depth));
-    }
-    Ok(())
-}
-
-fn check_lent<H: Hierarchy>(h: &H, state: State, points: usize, slots: usize) -> Result<(), Refusal>
-    ensures { result ≡ lent_verdict (H.meaning h.now) state points slots }
-{
-    if points != places(h) {
-        return Err(Refusal::WrongLength(points));
-    }
-    if slots != state.slots {
-        return Err(Refusal::WrongLength(slots));
-    }
-    Ok(())
-}
-
-fn check_request<H: Hierarchy, V: Copy>(
-    h: &H,
-    state: State,
-    request: Request<V>,
-) -> Result<(), Refusal>
-    ensures { result ≡ request_verdict (H.meaning h.now) state request }
-{
-    match request {
-        Request::Analyse if state.depth == 0 => Err(Refusal::NoSuchDepth(state.depth)),
-        Request::Synthesise if state.depth >= h.levels() => Err(Refusal::NoSuchDepth(state.depth)),
-        Request::Move(place, _) | Request::Read(place) if place >= places(h) => {
-            Err(Refusal::NoSuchPlace(place))
+impl<'f, H: Hierarchy, S: Scheme> Setting<'f, H, S> {
+    pub(crate) fn check_opening(
+        &self,
+        points: usize,
+        slots: usize,
+        depth: usize,
+    ) -> Result<(), Refusal>
+        ensures { result ≡ opening_verdict (H.meaning self.now.hierarchy.now) (S.Scheme.uniform self.now.scheme.now) points slots depth }
+    {
+        if self.scheme.needs_uniform() && !is_uniform(self.hierarchy) {
+            return Err(Refusal::NotUniform);
         }
-        Request::Move(_, _) if state.survivors >= state.slots => {
-            Err(Refusal::ListFull(state.survivors))
+        if points != self.hierarchy.places() {
+            return Err(Refusal::WrongLength(points));
         }
-        Request::TakeBack if state.survivors == 0 => Err(Refusal::NoSurvivingMove),
-        _ => Ok(()),
+        if slots > MOST_SLOTS {
+            return Err(Refusal::WrongLength(slots));
+        }
+        if depth > self.hierarchy.levels() {
+            return Err(Refusal::NoSuchDepth(depth));
+        }
+        Ok(())
     }
 }
 
-fn check_call<H: Hierarchy, V: Copy>(
-    h: &H,
-    state: State,
-    points: usize,
-    slots: usize,
-    request: Request<V>,
-) -> Result<(), Refusal>
-    ensures { result ≡ call_verdict (H.meaning h.now) state points slots request }
-{
-    check_lent(h, state, points, slots)?;
-    // no opened form stands above the finest depth
-    if state.depth > h.levels() {
-        return Err(Refusal::NoSuchDepth(state.depth));
+impl<'f, H: Hierarchy, S: Scheme> Form<'f, H, S> {
+    fn check_lent(&self, points: usize, slots: usize) -> Result<(), Refusal>
+        ensures { result ≡ lent_verdict (H.meaning self.now.setting.hierarchy.now) self.now.state points slots }
+    {
+        if points != self.setting.hierarchy.places() {
+            return Err(Refusal::WrongLength(points));
+        }
+        if slots != self.state.slots {
+            return Err(Refusal::WrongLength(slots));
+        }
+        Ok(())
     }
-    check_request(h, state, request)
-}
 
-// The slot of the last surviving move has to name a place and a depth.
-fn check_slot<H: Hierarchy, V: ValueKind>(
-    h: &H,
-    slots: &[Slot<V>],
-    last: usize,
-) -> Result<(), Refusal>
-    ensures { result ≡ unless_passed (names (H.meaning h.now) (slice_index_or slots.now last (no_slot (H.meaning h.now) V.ValueKind.zero))) (SpoiledSlot last) }
-{
-    if last >= slots.len() {
-        return Err(Refusal::SpoiledSlot(last));
+    fn check_request(&self, request: Request<S::Value>) -> Result<(), Refusal>
+        ensures { result ≡ request_verdict (H.meaning self.now.setting.hierarchy.now) self.now.state request }
+    {
+        let State {
+            depth,
+            survivors,
+            slots,
+        } = self.state;
+        let h = self.setting.hierarchy;
+        match request {
+            Request::Analyse if depth == 0 => Err(Refusal::NoSuchDepth(depth)),
+            Request::Synthesise if depth >= h.levels() => Err(Refusal::NoSuchDepth(depth)),
+            Request::Move(place, _) | Request::Read(place) if place >= h.places() => {
+                Err(Refusal::NoSuchPlace(place))
+            }
+            Request::Move(_, _) if survivors >= slots => Err(Refusal::ListFull(survivors)),
+            Request::TakeBack if survivors == 0 => Err(Refusal::NoSurvivingMove),
+            _ => Ok(()),
+        }
     }
-    let slot = slots[last];
-    if slot.place >= places(h) || slot.depth > h.levels() {
-        return Err(Refusal::SpoiledSlot(last));
-    }
-    Ok(())
-}
 
-pub(crate) fn check<H: Hierarchy, V: ValueKind>(
-    h: &H,
-    state: State,
-    points: &[V],
-    slots: &[Slot<V>],
-    request: Request<V>,
-) -> Result<(), Refusal>
-    ensures { result ≡ memory_verdict (H.meaning h.now) V.ValueKind.zero (lending state points.now slots.now) request }
-{
-    check_call(h, state, points.len(), slots.len(), request)?;
-    match request {
-        Request::TakeBack => check_slot(h, slots, state.survivors - 1),
-        _ => Ok(()),
+    fn check_call(
+        &self,
+        points: usize,
+        slots: usize,
+        request: Request<S::Value>,
+    ) -> Result<(), Refusal>
+        ensures { result ≡ call_verdict (H.meaning self.now.setting.hierarchy.now) self.now.state points slots request }
+    {
+        self.check_lent(points, slots)?;
+        // no opened form stands above the finest depth
+        if self.state.depth > self.setting.hierarchy.levels() {
+            return Err(Refusal::NoSuchDepth(self.state.depth));
+        }
+        self.check_request(request)
+    }
+
+    // All that a call is refused for but its slot.
+    pub(crate) fn check(
+        &self,
+        points: &[S::Value],
+        slots: &[Slot<S::Value>],
+        request: Request<S::Value>,
+    ) -> Result<(), Refusal>
+        ensures passed { OnOk result (Passed (H.meaning self.now.setting.hierarchy.now) (lending self.now.state points.now slots.now) request) }
+        ensures refused { IfErr result (λ e. Kept (H.meaning self.now.setting.hierarchy.now) (rule S.Scheme S.Value.ValueKind self.now.setting.scheme.now) request (lending self.now.state points.now slots.now) (Err e) (lending self.now.state points.now slots.now)) }
+    {
+        self.check_call(points.len(), slots.len(), request)
+    }
+
+    // The last surviving move, whose slot has to name a place and a depth.
+    pub(crate) fn last_move(&self, slots: &[Slot<S::Value>]) -> Result<Slot<S::Value>, Refusal>
+        requires { 0 < self.now.state.survivors }
+        ensures verdict { MatchResult result (λ _. slot_verdict (H.meaning self.now.setting.hierarchy.now) S.Value.ValueKind.zero (lending self.now.state [] slots.now) TakingBack ≡ Ok tt) (λ e. slot_verdict (H.meaning self.now.setting.hierarchy.now) S.Value.ValueKind.zero (lending self.now.state [] slots.now) TakingBack ≡ Err e) }
+        ensures slot { IfOk result (λ s. s ≡ last_slot (H.meaning self.now.setting.hierarchy.now) S.Value.ValueKind.zero (lending self.now.state [] slots.now)) }
+        ensures named { IfOk result (λ s. (s.place < finest (H.meaning self.now.setting.hierarchy.now)) × (s.depth ≤ (H.meaning self.now.setting.hierarchy.now).levels)) }
+    {
+        let last = self.state.survivors - 1;
+        let h = self.setting.hierarchy;
+        match slots.get(last) {
+            Some(slot) if slot.place < h.places() && slot.depth <= h.levels() => Ok(*slot),
+            _ => Err(Refusal::SpoiledSlot(last)),
+        }
     }
 }

@@ -20,9 +20,8 @@ impl<'f, H: Hierarchy, S: Scheme> Form<'f, H, S> {
         slots: &mut [Slot<S::Value>],
         request: Request<S::Value>,
     ) -> Answer<S::Value>
-        ensures call { Kept (H.meaning self.old.hierarchy.now) (rule S.Scheme S.Value.ValueKind self.old.scheme.now) request (lending self.old.state points.old slots.old) result (lending self.new.state points.new slots.new) }
-        ensures hierarchy { self.new.hierarchy ≡ self.old.hierarchy }
-        ensures scheme { self.new.scheme ≡ self.old.scheme }
+        ensures call { Kept (H.meaning self.old.setting.hierarchy.now) (rule S.Scheme S.Value.ValueKind self.old.setting.scheme.now) request (lending self.old.state points.old slots.old) result (lending self.new.state points.new slots.new) }
+        ensures setting { self.new.setting ≡ self.old.setting }
     {
         match request {
             Request::Analyse => depth_answer(self.analyse(points, slots)),
@@ -42,9 +41,8 @@ impl<'f, H: Hierarchy, S: Scheme> Form<'f, H, S> {
         slots: &mut [Slot<S::Value>],
         call: Call<S::Value>,
     ) -> Answer<S::Value>
-        ensures call { (h : History S.Value) → Stands (H.meaning self.old.hierarchy.now) (rule S.Scheme S.Value.ValueKind self.old.scheme.now) (lending self.old.state points.old slots.old) h → Made (H.meaning self.old.hierarchy.now) (rule S.Scheme S.Value.ValueKind self.old.scheme.now) h call slots.old result (lending self.new.state points.new slots.new) }
-        ensures hierarchy { self.new.hierarchy ≡ self.old.hierarchy }
-        ensures scheme { self.new.scheme ≡ self.old.scheme }
+        ensures call { (h : History S.Value) → Stands (H.meaning self.old.setting.hierarchy.now) (rule S.Scheme S.Value.ValueKind self.old.setting.scheme.now) (lending self.old.state points.old slots.old) h → Made (H.meaning self.old.setting.hierarchy.now) (rule S.Scheme S.Value.ValueKind self.old.setting.scheme.now) h call slots.old result (lending self.new.state points.new slots.new) }
+        ensures setting { self.new.setting ≡ self.old.setting }
     {
         let points_lent = call.points.min(points.len());
         let slots_lent = call.slots.min(slots.len());
@@ -70,8 +68,10 @@ pub fn perform<'f, H: Hierarchy, S: Scheme>(
 {
     let mut form = Form::open(h, s, points, slots, depth)?;
     let count = calls.len().min(answers.len());
-    for i in 0..count {
-        let answer = form.make(points, slots, calls[i]);
+    let made = &calls[..count];
+    // not by a zip over `answers.iter_mut()`, after which a proof knows nothing of what was written
+    for (i, call) in made.iter().enumerate() {
+        let answer = form.make(points, slots, *call);
         put(answers, i, answer);
     }
     Ok(count)

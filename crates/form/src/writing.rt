@@ -3,6 +3,7 @@ ghost use Rattle.std.specs.Prelude.{◌≡◌, ◌<◌, length, slice_index_or, 
 
 use kinds::ValueKind;
 
+// A function of its own, since `answers[i] = ..` in `perform` leaves open that the index times a generic size fits.
 pub(crate) fn put<T: Copy>(items: &mut [T], at: usize, item: T)
     requires { at < length items.old }
     ensures { items.new ≡ slice_set items.old at item }
@@ -15,6 +16,5 @@ pub(crate) fn add<V: ValueKind>(points: &mut [V], place: usize, amount: V)
     requires { place < length points.old }
     ensures { points.new ≡ slice_set points.old place (V.ValueKind.plus (slice_index_or points.old place V.ValueKind.zero) amount) }
 {
-    let old = points[place];
-    points[place] = old.plus(amount);
+    points[place] = points[place].plus(amount);
 }

@@ -3,7 +3,7 @@ use Rattle.std.proofs.Common.{◌≡◌, ℕ, ◌-◌, Bool, false, cond, List, 
 use Rattle.std.proofs.lemmas.List.{map-append, length-map, take-map}
 use Rattle.hierarchy.specs.Meaning.{Meaning}
 use Rattle.lifting.specs.HalfSteps.{Rule}
-use Rattle.history.specs.declared.answer.Answer.{Answer}
+use Rattle.history.specs.declared.answer.Reply.{Reply}
 use Rattle.history.specs.declared.call.Call.{Call}
 use Rattle.history.specs.declared.call.Request.{Request}
 use Rattle.history.specs.declared.call.Request.TheVariants.{Analyse, Synthesise, Move, TakeBack, Read}
@@ -73,14 +73,14 @@ module _ {V : Type 0} (m : Meaning) (r : Rule V) (named : ℕ → Bool) where
       ap (λ v. unless_refused v (granted (blanked h) (blank_request named r.zero c.request)) (blanked h)) (verdict_blanked h c)
       ∙ ap (λ x. unless_refused (verdict m h c) x (blanked h)) (granted_blanked h c.request) ∙ unless_blanked (verdict m h c) (granted h c.request) h
 
-  outline_reply : (st : State) (vs ws : List V) (request : Request V) → outline (reply r st vs (blank_request named r.zero request)) ≡ outline (reply r st ws request)
+  outline_reply : (st : State) (vs ws : List V) (request : Request V) → outline (Ok (reply r st vs (blank_request named r.zero request))) ≡ outline (Ok (reply r st ws request))
   outline_reply st vs ws Analyse = refl
   outline_reply st vs ws Synthesise = refl
   outline_reply st vs ws (Move place amount) = refl
   outline_reply st vs ws TakeBack = refl
   outline_reply st vs ws (Read place) = refl
 
-  outline_answered : (v : Verdict) (a b : Answer V) → outline a ≡ outline b → outline (answered v a) ≡ outline (answered v b)
+  outline_answered : (v : Verdict) (a b : Reply V) → outline (Ok a) ≡ outline (Ok b) → outline (answered v a) ≡ outline (answered v b)
   outline_answered (Ok x) a b e = e
   outline_answered (Err x) a b e = refl
 
@@ -93,7 +93,7 @@ module _ {V : Type 0} (m : Meaning) (r : Rule V) (named : ℕ → Bool) where
       (verdict m h c)
       _
       _
-      (ap (λ st. outline (reply r st (values m r blank-next) (blank_request named r.zero c.request))) state
+      (ap (λ st. outline (Ok (reply r st (values m r blank-next) (blank_request named r.zero c.request)))) state
       ∙ outline_reply (state_of (granted h c.request)) (values m r blank-next) (values m r (granted h c.request)) c.request)
 
   pub after_blanked : (h : History V) (cs : List (Call V)) → after m (blanked h) (map (blank named r.zero) cs) ≡ blanked (after m h cs)

@@ -3,8 +3,8 @@ use Rattle.std.proofs.Common.{◌≡◌, ℕ, zero, suc, ◌<◌, Bool, false, L
 use Rattle.std.proofs.lemmas.List.{length-map, take-map, get_or-map}
 use Rattle.hierarchy.specs.Meaning.{Meaning}
 use Rattle.lifting.specs.HalfSteps.{Rule}
-use Rattle.history.specs.declared.answer.Answer.{Answer}
-use Rattle.history.specs.declared.answer.Answer.TheVariants.{Value}
+use Rattle.history.specs.Answers.{Answer}
+use Rattle.history.specs.declared.answer.Reply.TheVariants.{Value}
 use Rattle.history.specs.declared.call.Call.{Call}
 use Rattle.history.specs.declared.call.Request.{Request}
 use Rattle.history.specs.declared.call.Request.TheVariants.{Analyse, Synthesise, Move, TakeBack, Read}
@@ -38,10 +38,10 @@ module _ {V : Type 0} (m : Meaning) (r : Rule V) where
 
   module _ (named : ℕ → Bool) where
     request_back : (request : Request V) (place : ℕ) → blank_request named r.zero request ≡ Read place → request ≡ Read place
-    request_back Analyse place e = let z : ◌≡◌ {A = ℕ} 0 1 = cc in absurd (omega arith)
-    request_back Synthesise place e = let z : ◌≡◌ {A = ℕ} 0 1 = cc in absurd (omega arith)
-    request_back (Move p a) place e = let z : ◌≡◌ {A = ℕ} 0 1 = cc in absurd (omega arith)
-    request_back TakeBack place e = let z : ◌≡◌ {A = ℕ} 0 1 = cc in absurd (omega arith)
+    request_back Analyse place e = e
+    request_back Synthesise place e = e
+    request_back (Move p a) place e = cc
+    request_back TakeBack place e = e
     request_back (Read p) place e = e
 
     module _ (o : Opening V) (calls others : List (Call V)) (alike : Alike r named calls others) where

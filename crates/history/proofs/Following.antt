@@ -1,5 +1,5 @@
 -- Where form and memory stand for a history, a call answers as the history does, and leaves what stands for the next.
-use Rattle.std.proofs.Common.{◌≡◌, ℕ, ◌+◌, ◌-◌, ◌<◌, ◌≤◌, Bool, true, false, leb, List, [], ◌∷◌, ◌++◌, length, get_or, take, set, Ok, Err, sym, refl, ap, ◌∙◌, subst, arith, length-set}
+use Rattle.std.proofs.Common.{◌≡◌, ◌+◌, ◌-◌, ◌<◌, ◌≤◌, Bool, true, false, leb, List, [], ◌∷◌, ◌++◌, length, get_or, take, set, Ok, Err, sym, refl, ap, ◌∙◌, subst, arith, length-set}
 use Rattle.std.proofs.ByRecursion.{All-get_or, All-push, All-take}
 use Rattle.std.proofs.lemmas.List.{take_all, take_more, take_more_set, take-take, length-take-le, length_push, get_or-take}
 use Rattle.std.proofs.lemmas.Bool.{cond-true, le-leb, lt-ltb, ltb-true, and_from}
@@ -9,8 +9,8 @@ use Rattle.lifting.specs.HalfSteps.{Rule}
 use Rattle.lifting.specs.Travel.{Straight}
 use Rattle.lifting.proofs.Journeys.{travelled_none}
 use Rattle.refusal.specs.declared.Refusal.{Refusal}
-use Rattle.history.specs.declared.answer.Answer.{Answer}
-use Rattle.history.specs.declared.answer.Answer.TheVariants.{Refused}
+use Rattle.history.specs.Answers.{Answer}
+use Rattle.history.specs.declared.answer.Reply.{Reply}
 use Rattle.history.specs.declared.call.Request.{Request}
 use Rattle.history.specs.declared.call.Request.TheVariants.{Analyse, Synthesise, Move, TakeBack, Read}
 use Rattle.history.specs.declared.slot.Slot.{Slot}
@@ -22,11 +22,11 @@ use Rattle.history.proofs.Making.{made_last, made_on, last_undone}
 
 pub passed : (test : Bool) (e : Refusal) → unless_passed test e ≡ Ok tt → test ≡ true
 passed true e h = refl
-passed false e h = let z : ◌≡◌ {A = ℕ} 0 1 = cc in absurd (omega arith)
+passed false e h = cc
 
 pub both_passed : (a b : Verdict) → and_then a b ≡ Ok tt → (a ≡ Ok tt) × (b ≡ Ok tt)
 both_passed (Ok x) b h = (refl, h)
-both_passed (Err e) b h = let z : ◌≡◌ {A = ℕ} 0 1 = cc in absurd (omega arith)
+both_passed (Err e) b h = absurd cc
 
 -- checks that pass whenever those before them do change nothing
 three_checks : (a b c d : Verdict) → b ≡ Ok tt → (c ≡ Ok tt → d ≡ Ok tt) → and_then (and_then a (and_then b c)) d ≡ and_then a c
@@ -37,7 +37,7 @@ three_checks (Ok x) b (Err e) d h k = ap (λ v. and_then (and_then v (Err e)) d)
 pub refused_first : {v : Verdict} {e : Refusal} (w : Verdict) → v ≡ Err e → and_then v w ≡ Err e
 refused_first w h = ap (λ x. and_then x w) h
 
-pub refused_answer : {V : Type 0} {v : Verdict} {e : Refusal} (a : Answer V) → v ≡ Err e → answered v a ≡ Refused e
+pub refused_answer : {V : Type 0} {v : Verdict} {e : Refusal} (a : Reply V) → v ≡ Err e → answered v a ≡ Err e
 refused_answer a h = ap (λ x. answered x a) h
 
 pub refused_stays : {A : Type 0} {v : Verdict} {e : Refusal} (a b : A) → v ≡ Err e → unless_refused v a b ≡ b
@@ -144,7 +144,7 @@ module _ {V : Type 0} (m : Meaning) (r : Rule V) (straight : Straight m r) (grou
     settled : (request : Request V) (v : Verdict) → verdict m h (call_on here request) ≡ v → (answered v (reply r (served m r here request).state (served m r here request).points request) ≡ answered v (reply r (state_of (granted h request)) (values m r (granted h request)) request)) × Stands m r (unless_refused v (served m r here request) here) (unless_refused v (granted h request) h)
     settled request (Ok x) e =
         let stands = granted_stands request (both_passed _ _ e).1 in
-        (ap (λ st. reply r st (served m r here request).points request) stands.state ∙ ap (λ vs. reply r (state_of (granted h request)) vs request) stands.points, stands)
+        (ap (λ st. Ok (reply r st (served m r here request).points request)) stands.state ∙ ap (λ vs. Ok (reply r (state_of (granted h request)) vs request)) stands.points, stands)
     settled request (Err x) e = (refl, record { sound = sound; state = refl; points = refl; moves = moves; slots = long })
 
     answers_alike : (request : Request V) → (memory_answer m r here request ≡ answer m r h (call_on here request)) × Stands m r (memory_after m r here request) (next m h (call_on here request))

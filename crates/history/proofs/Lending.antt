@@ -8,7 +8,7 @@ use Rattle.lifting.specs.HalfSteps.{Rule}
 use Rattle.lifting.specs.Travel.{Straight}
 use Rattle.kinds.specs.Groups.{Group}
 use Rattle.refusal.specs.declared.Refusal.{Refusal}
-use Rattle.history.specs.declared.answer.Answer.{Answer}
+use Rattle.history.specs.Answers.{Answer}
 use Rattle.history.specs.declared.call.Call.{Call}
 use Rattle.history.specs.declared.slot.Slot.{Slot}
 use Rattle.history.specs.declared.state.State.{State}

@@ -1,14 +1,13 @@
 -- A run, call by call, and the promise over the whole of it.
-use Rattle.std.proofs.Common.{◌≡◌, ℕ, ◌+◌, ◌<◌, ◌≤◌, min, Bool, List, [], ◌∷◌, ◌++◌, length, get_or, take, drop, set, Ok, Err, sym, refl, ap, ◌∙◌, subst, ⊎_elim, arith}
-use native.Mathlib.Nat.{min-eq_left, min-eq_right, min_comm}
-use Rattle.std.proofs.lemmas.List.{append_assoc, take_all, take_more, drop_more, set_at, length-take, length-take-le, length_push}
-use Rattle.std.proofs.lemmas.Bool.{cases_lt}
+use Rattle.std.proofs.Common.{◌≡◌, ℕ, ◌+◌, ◌<◌, min, Bool, List, [], ◌∷◌, ◌++◌, length, get_or, take, drop, set, Ok, Err, sym, refl, ap, ◌∙◌, subst, arith}
+use native.Mathlib.Nat.{min_comm}
+use Rattle.std.proofs.lemmas.List.{append_assoc, take_min, take_more, drop_more, set_at, length-take, length-take-le, length_push}
 use Rattle.hierarchy.specs.Meaning.{Meaning}
 use Rattle.lifting.specs.HalfSteps.{Rule}
 use Rattle.lifting.specs.Travel.{travelled}
 use Rattle.lifting.proofs.Journeys.{travelled_none}
 use Rattle.refusal.specs.declared.Refusal.{Refusal}
-use Rattle.history.specs.declared.answer.Answer.{Answer}
+use Rattle.history.specs.Answers.{Answer}
 use Rattle.history.specs.declared.call.Call.{Call}
 use Rattle.history.specs.declared.slot.Slot.{Slot}
 use Rattle.history.specs.declared.call.Request.{Request}
@@ -67,14 +66,6 @@ module _ {V : Type 0} (m : Meaning) (r : Rule V) where
   pub start : (h : History V) (before : Lent V) (mem : Memory V) → Stands m r mem h → mem.slots ≡ before.slots → Running h [] before mem before.answers
   start h before mem stands slots = record { stands = stands; slots = slots; answers = refl }
 
--- as many calls as there is room for answers
-made_calls : {X : Type 0} (xs : List X) (room : ℕ) → take (min (length xs) room) xs ≡ take room xs
-made_calls xs room =
-    ⊎_elim
-    (λ (l : room < length xs). ap (λ n. take n xs) (min-eq_right (omega arith)))
-    (λ (l : length xs ≤ room). ap (λ n. take n xs) (min-eq_left l) ∙ take_all (length xs) xs (omega arith) ∙ sym (take_all room xs l))
-    (cases_lt room (length xs))
-
 -- the opening is never changed
 granted_opening : {V : Type 0} (h : History V) (request : Request V) → (granted h request).opening ≡ h.opening
 granted_opening h Analyse = refl
@@ -101,18 +92,18 @@ values_again m r h none same =
 module _ {V : Type 0} (m : Meaning) (r : Rule V) (needs : Bool) (depth : ℕ) (calls : List (Call V)) (before : Lent V) where
   pub promise_refused : (e : Refusal) → opening_verdict m needs (length before.points) (length before.slots) depth ≡ Err e → Promise m r needs depth calls before before (Err e)
   promise_refused e against = record {
-    refused = λ e' against'. let same : e ≡ e' = cc in (ap (λ x. Err x) same, refl);
-    performed = λ ok. let z : ◌≡◌ {A = ℕ} 0 1 = cc in absurd (omega arith);
+    refused = λ e' against'. (cc, refl);
+    performed = λ ok. absurd cc;
   }
 
   pub promise_kept : (mem : Memory V) (room : List (Answer V)) (count : ℕ) → opening_verdict m needs (length before.points) (length before.slots) depth ≡ Ok tt → count ≡ min (length calls) (length before.answers) → Running m r (opened depth before) (take count calls) before mem room → Promise m r needs depth calls before (lent_to mem.points mem.slots room) (Ok count)
   promise_kept mem room count ok is run = record {
-    refused = λ e against. let z : ◌≡◌ {A = ℕ} 0 1 = cc in absurd (omega arith);
+    refused = λ e against. absurd cc;
     performed = λ _. (ap Ok (is ∙ min_comm (length calls) (length before.answers) ∙ sym (length-take (length before.answers) calls)), all);
   }
     where
       run' : Running m r (opened depth before) (take (length before.answers) calls) before mem room
-      run' = subst (λ cs. Running m r (opened depth before) cs before mem room) (ap (λ n. take n calls) is ∙ made_calls calls (length before.answers)) run
+      run' = subst (λ cs. Running m r (opened depth before) cs before mem room) (ap (λ n. take n calls) (is ∙ min_comm (length calls) (length before.answers)) ∙ take_min (length before.answers) calls) run
 
       all : Performed m r (opened depth before) (take (length before.answers) calls) before (lent_to mem.points mem.slots room)
       all = record {

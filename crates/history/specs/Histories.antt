@@ -4,8 +4,9 @@ use Rattle.std.specs.Prelude.{ℕ, ◌+◌, ◌-◌, List, [], ◌∷◌, ◌++�
 use Rattle.hierarchy.specs.Meaning.{Meaning}
 use Rattle.lifting.specs.HalfSteps.{Rule}
 use Rattle.lifting.specs.Travel.{travelled}
-use Rattle.history.specs.declared.answer.Answer.{Answer}
-use Rattle.history.specs.declared.answer.Answer.TheVariants.{Depth, Count, Value}
+use Rattle.history.specs.Answers.{Answer}
+use Rattle.history.specs.declared.answer.Reply.{Reply}
+use Rattle.history.specs.declared.answer.Reply.TheVariants.{Depth, Count, Value}
 use Rattle.history.specs.declared.call.Call.{Call}
 use Rattle.history.specs.declared.call.Request.{Request}
 use Rattle.history.specs.declared.call.Request.TheVariants.{Analyse, Synthesise, Move, TakeBack, Read}
@@ -65,7 +66,7 @@ abbrev pub next : {V : Type 0} → Meaning → History V → Call V → History 
 next m h c = unless_refused (verdict m h c) (granted h c.request) h
 
 -- the depth reached, the number of moves that survive now, or the value at the place
-abbrev pub reply : {V : Type 0} → Rule V → State → List V → Request V → Answer V
+abbrev pub reply : {V : Type 0} → Rule V → State → List V → Request V → Reply V
 reply r st vs Analyse = Depth st.depth
 reply r st vs Synthesise = Depth st.depth
 reply r st vs (Move place amount) = Count st.survivors

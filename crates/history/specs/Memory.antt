@@ -6,7 +6,7 @@ use Rattle.lifting.specs.HalfSteps.{Rule}
 use Rattle.lifting.specs.Travel.{travelled}
 use Rattle.refusal.specs.declared.Refusal.{Refusal}
 use Rattle.refusal.specs.declared.Refusal.TheVariants.{NoSuchDepth, SpoiledSlot}
-use Rattle.history.specs.declared.answer.Answer.{Answer}
+use Rattle.history.specs.Answers.{Answer}
 use Rattle.history.specs.declared.call.Call.{Call}
 use Rattle.history.specs.declared.call.Request.{Request}
 use Rattle.history.specs.declared.call.Request.TheVariants.{Analyse, Synthesise, Move, TakeBack, Read}
@@ -54,6 +54,22 @@ call_verdict m st points slots request = and_then (lent_verdict m st points slot
 
 abbrev pub memory_verdict : {V : Type 0} → Meaning → V → Memory V → Request V → Verdict
 memory_verdict m zero mem request = and_then (call_verdict m mem.state (length mem.points) (length mem.slots) request) (slot_verdict m zero mem request)
+
+-- what a request may count on that is not refused
+abbrev pub Allowed : {V : Type 0} → Meaning → State → Request V → Type 0
+Allowed m st Analyse = 0 < st.depth
+Allowed m st Synthesise = st.depth < m.levels
+Allowed m st (Move place amount) = (place < finest m) × (st.survivors < st.slots)
+Allowed m st TakeBack = 0 < st.survivors
+Allowed m st (Read place) = place < finest m
+
+-- what is known of a call that is not refused, but for its slot
+pub record Passed {V : Type 0} (m : Meaning) (mem : Memory V) (request : Request V) : Type 0 where
+  pub verdict : call_verdict m mem.state (length mem.points) (length mem.slots) request ≡ Ok tt
+  pub points : length mem.points ≡ finest m
+  pub slots : length mem.slots ≡ mem.state.slots
+  pub depth : mem.state.depth ≤ m.levels
+  pub allowed : Allowed m mem.state request
 
 -- the form at another depth, the points having travelled there
 abbrev pub gone_to : {V : Type 0} → Meaning → Rule V → Memory V → ℕ → Memory V

@@ -4,8 +4,8 @@ use Rattle.std.specs.Prelude.{◌≡◌, ℕ, ◌<◌, Bool, false, cond, List, 
 use Rattle.hierarchy.specs.Meaning.{Meaning}
 use Rattle.lifting.specs.HalfSteps.{Rule}
 use Rattle.refusal.specs.declared.Refusal.{Refusal}
-use Rattle.history.specs.declared.answer.Answer.{Answer}
-use Rattle.history.specs.declared.answer.Answer.TheVariants.{Depth, Count, Value, Refused}
+use Rattle.history.specs.Answers.{Answer}
+use Rattle.history.specs.declared.answer.Reply.TheVariants.{Depth, Count, Value}
 use Rattle.history.specs.declared.call.Call.{Call}
 use Rattle.history.specs.declared.call.Request.{Request}
 use Rattle.history.specs.declared.call.Request.TheVariants.{Analyse, Synthesise, Move, TakeBack, Read}
@@ -32,10 +32,10 @@ Alike r named calls others = map (blank named r.zero) calls ≡ map (blank named
 
 -- an answer but for the value read
 abbrev pub outline : {V : Type 0} → Answer V → Answer (Unit {0})
-outline (Depth n) = Depth n
-outline (Count n) = Count n
-outline (Value v) = Value tt
-outline (Refused e) = Refused e
+outline (Ok (Depth n)) = Ok (Depth n)
+outline (Ok (Count n)) = Ok (Count n)
+outline (Ok (Value v)) = Ok (Value tt)
+outline (Err e) = Err e
 
 -- two lists of calls, made on the same history
 pub record Blind {V : Type 0} (m : Meaning) (r : Rule V) (h : History V) (named : ℕ → Bool) (calls others : List (Call V)) : Type 0 where

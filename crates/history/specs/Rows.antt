@@ -4,8 +4,8 @@ use Rattle.hierarchy.specs.Meaning.{Meaning}
 use Rattle.hierarchy.specs.Uniform.{uniform}
 use Rattle.refusal.specs.declared.Refusal.{Refusal}
 use Rattle.refusal.specs.declared.Refusal.TheVariants.{NotUniform, WrongLength, NoSuchDepth, NoSuchPlace, ListFull, NoSurvivingMove}
-use Rattle.history.specs.declared.answer.Answer.{Answer}
-use Rattle.history.specs.declared.answer.Answer.TheVariants.{Refused}
+use Rattle.history.specs.Answers.{Answer}
+use Rattle.history.specs.declared.answer.Reply.{Reply}
 use Rattle.history.specs.declared.call.Request.{Request}
 use Rattle.history.specs.declared.call.Request.TheVariants.{Analyse, Synthesise, Move, TakeBack, Read}
 use Rattle.history.specs.declared.state.State.{State}
@@ -28,10 +28,10 @@ abbrev pub unless_refused : {A : Type 0} → Verdict → A → A → A
 unless_refused (Ok x) after before = after
 unless_refused (Err e) after before = before
 
--- the answer where there is no refusal, or else the refusal
-abbrev pub answered : {V : Type 0} → Verdict → Answer V → Answer V
-answered (Ok x) a = a
-answered (Err e) a = Refused e
+-- the reply where there is no refusal, or else the refusal
+abbrev pub answered : {V : Type 0} → Verdict → Reply V → Answer V
+answered (Ok x) a = Ok a
+answered (Err e) a = Err e
 
 -- a place is a number below this one
 abbrev pub finest : Meaning → ℕ

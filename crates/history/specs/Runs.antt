@@ -2,7 +2,7 @@
 use Rattle.std.specs.Prelude.{min, List, [], ◌∷◌}
 use Rattle.hierarchy.specs.Meaning.{Meaning}
 use Rattle.lifting.specs.HalfSteps.{Rule}
-use Rattle.history.specs.declared.answer.Answer.{Answer}
+use Rattle.history.specs.Answers.{Answer}
 use Rattle.history.specs.declared.call.Call.{Call}
 use Rattle.history.specs.declared.slot.Slot.{Slot}
 use Rattle.history.specs.Rows.{unless_refused, finest}

@@ -1,5 +1,5 @@
 // What a form can be asked.
-#[derive(Clone, Copy)]
+#[derive(Clone, Copy, Debug, PartialEq, Eq)]
 pub enum Request<V> {
     // one depth coarser
     Analyse,
@@ -14,7 +14,7 @@ pub enum Request<V> {
 }
 
 // A request, with the lengths of the points and of the move list that are lent for it.
-#[derive(Clone, Copy)]
+#[derive(Clone, Copy, Debug, PartialEq, Eq)]
 pub struct Call<V> {
     pub request: Request<V>,
     pub points: usize,

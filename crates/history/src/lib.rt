@@ -7,7 +7,7 @@ mod outcome;
 mod slot;
 mod state;
 
-pub use answer::Answer;
+pub use answer::{Answer, Reply};
 pub use call::{Call, Request};
 pub use outcome::{count_answer, depth_answer, value_answer};
 pub use slot::Slot;

@@ -2,32 +2,24 @@
 ghost use Rattle.std.specs.Prelude.{◌≡◌};
 ghost use Rattle.history.specs.Answers.{depth_answer, count_answer, value_answer};
 
-use crate::answer::Answer;
+use crate::answer::{Answer, Reply};
 use refusal::Refusal;
 
+// Three functions, one for each kind of reply: a parameter in their place would be the variant's name again.
 pub fn depth_answer<V: Copy>(returned: Result<usize, Refusal>) -> Answer<V>
     ensures { result ≡ depth_answer returned }
 {
-    match returned {
-        Ok(depth) => Answer::Depth(depth),
-        Err(refusal) => Answer::Refused(refusal),
-    }
+    Ok(Reply::Depth(returned?))
 }
 
 pub fn count_answer<V: Copy>(returned: Result<usize, Refusal>) -> Answer<V>
     ensures { result ≡ count_answer returned }
 {
-    match returned {
-        Ok(count) => Answer::Count(count),
-        Err(refusal) => Answer::Refused(refusal),
-    }
+    Ok(Reply::Count(returned?))
 }
 
 pub fn value_answer<V: Copy>(returned: Result<V, Refusal>) -> Answer<V>
     ensures { result ≡ value_answer returned }
 {
-    match returned {
-        Ok(value) => Answer::Value(value),
-        Err(refusal) => Answer::Refused(refusal),
-    }
+    Ok(Reply::Value(returned?))
 }

@@ -1,5 +1,5 @@
 // What an opened form keeps beside the memory that belongs to it.
-#[derive(Clone, Copy)]
+#[derive(Clone, Copy, Debug, PartialEq, Eq)]
 pub struct State {
     // the present depth, 0 at the coarsest
     pub depth: usize,

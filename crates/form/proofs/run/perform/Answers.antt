@@ -1,5 +1,5 @@
-use Rattle.std.proofs.Common.{◌≡◌, ◌<◌, length, take, ap, ◌∙◌, subst, arith}
-use native.Mathlib.Nat.{min-le_left, min-le_right}
+use Rattle.std.proofs.Common.{◌≡◌, ◌<◌, length, take, ap, ◌∙◌, subst, arith, length-take}
+use Rattle.std.proofs.lemmas.List.{get_or-take}
 use Rattle.std.proofs.lemmas.Result.{err_from_is_err_and}
 use Rattle.lifting.specs.HalfSteps.{rule}
 use Rattle.history.specs.Histories.{History}
@@ -23,17 +23,18 @@ loop-i-preserved g c =
     let before = lent_to c.args.points.now c.args.slots.now c.args.answers.now in
     let mem = lending c.loop-i.form.state c.loop-i.points c.loop-i.slots in
     let mem' = lending c.make-answer.new.self.state c.make-answer.new.points c.make-answer.new.slots in
-    let call = c.index-calls-i.result in
+    let call = c.index-made-i.result in
     let answer = c.make-answer.result in
-    let on-scheme = subst (λ s. (x : History _) → Stands (g.H.Hierarchy.meaning c.loop-i.form.hierarchy.now) (rule g.S.Scheme g.S.Value.ValueKind s) mem x → Made (g.H.Hierarchy.meaning c.loop-i.form.hierarchy.now) (rule g.S.Scheme g.S.Value.ValueKind s) x call c.loop-i.slots answer mem') c.loop-i.invariant.1 c.make-answer.ensures.call in
+    let on-scheme = subst (λ s. (x : History _) → Stands (g.H.Hierarchy.meaning c.loop-i.form.setting.hierarchy.now) (rule g.S.Scheme g.S.Value.ValueKind s) mem x → Made (g.H.Hierarchy.meaning c.loop-i.form.setting.hierarchy.now) (rule g.S.Scheme g.S.Value.ValueKind s) x call c.loop-i.slots answer mem') c.loop-i.invariant.1 c.make-answer.ensures.call in
     let made = subst (λ h. (x : History _) → Stands (g.H.Hierarchy.meaning h) r mem x → Made (g.H.Hierarchy.meaning h) r x call c.loop-i.slots answer mem') c.loop-i.invariant.0 on-scheme in
-    let few = min-le_left (length c.args.calls.now) (length c.args.answers.now) in
-    let room = min-le_right (length c.args.calls.now) (length c.args.answers.now) in
+    let few = length-take c.min-count.result c.args.calls.now in
+    let among : c.loop-i.i < c.min-count.result = omega (arith, c.loop-i-test.true) in
     let here : c.loop-i.i < length c.args.calls.now = omega (arith, c.min-count.ensures) in
-    let free : c.loop-i.i < length c.args.answers.now = omega (arith, c.min-count.ensures) in (
-      ap (λ x. x.now) c.make-answer.ensures.hierarchy ∙ c.loop-i.invariant.0,
-      ap (λ x. x.now) c.make-answer.ensures.scheme ∙ c.loop-i.invariant.1,
-      turn m r (opened c.args.depth before) c.args.calls.now before mem mem' c.loop-i.answers _ c.loop-i.i call answer here free c.index-calls-i.is c.loop-i.invariant.2 made c.put.ensures,
+    let free : c.loop-i.i < length c.args.answers.now = omega (arith, c.min-count.ensures) in
+    let is = c.index-made-i.is ∙ get_or-take c.min-count.result c.args.calls.now c.loop-i.i call among in (
+      ap (λ x. x.hierarchy.now) c.make-answer.ensures.setting ∙ c.loop-i.invariant.0,
+      ap (λ x. x.scheme.now) c.make-answer.ensures.setting ∙ c.loop-i.invariant.1,
+      turn m r (opened c.args.depth before) c.args.calls.now before mem mem' c.loop-i.answers _ c.loop-i.i call answer here free is c.loop-i.invariant.2 made c.put.ensures,
     )
 
 pub returns : goal.returns
@@ -42,6 +43,7 @@ returns g c =
     let r = rule g.S.Scheme g.S.Value.ValueKind c.args.s.now in
     let before = lent_to c.args.points.now c.args.slots.now c.args.answers.now in
     let mem = lending c.loop-i.form.state c.loop-i.points c.loop-i.slots in
-    let end : c.loop-i.i ≡ c.min-count.result = omega arith in
+    let few = length-take c.min-count.result c.args.calls.now in
+    let end : c.loop-i.i ≡ c.min-count.result = omega (arith, c.loop-i-test.false, c.min-count.ensures, c.loop-i.auto.i-end) in
     let run = subst (λ n. Running m r (opened c.args.depth before) (take n c.args.calls.now) before mem c.loop-i.answers) end c.loop-i.invariant.2 in
     promise_kept m r (g.S.Scheme.uniform c.args.s.now) c.args.depth c.args.calls.now before mem c.loop-i.answers c.min-count.result c.in_ok-form.ensures.0.verdict c.min-count.ensures run

@@ -11,4 +11,4 @@ invariant-loop-i g l =
     let m = g.H.Hierarchy.meaning l.h in
     let r = rule g.S.Scheme g.S.Value.ValueKind l.s in
     let before = lent_to l.initial.points l.initial.slots l.initial.answers in
-    (l.form.hierarchy.now ≡ l.h) × (l.form.scheme.now ≡ l.s) × Running m r (opened l.depth before) (take l.i l.calls) before (lending l.form.state l.points l.slots) l.answers
+    (l.form.setting.hierarchy.now ≡ l.h) × (l.form.setting.scheme.now ≡ l.s) × Running m r (opened l.depth before) (take l.i l.calls) before (lending l.form.state l.points l.slots) l.answers

@@ -1,30 +1,15 @@
-use Rattle.std.proofs.Common.{refl}
-use Rattle.std.proofs.lemmas.Result.{err_from_is_err_and}
+use Rattle.std.proofs.Common.{◌+◌, refl}
 use Rattle.lifting.specs.HalfSteps.{rule}
 use Rattle.history.specs.declared.call.Request.TheVariants.{Move}
-use Rattle.history.specs.Memory.{lending}
-use Rattle.history.proofs.Serving.{refused_kept, served_kept}
+use Rattle.history.specs.Histories.{listed}
+use Rattle.history.specs.Memory.{lending, surviving}
+use Rattle.history.proofs.Serving.{served_kept}
 use Rattle.form.proofs.form.Form.move_by.Goals as goal
 
-pub returns-in_err-check : goal.returns-in_err-check
-returns-in_err-check g c =
-    let p = err_from_is_err_and c.from_residual.result c.from_residual.ensures.1 in
-    let m = g.H.Hierarchy.meaning c.args.self.now.hierarchy.now in
-    let r = rule g.S.Scheme g.S.Value.ValueKind c.args.self.now.scheme.now in
-    let mem = lending c.args.self.now.state c.args.points.now c.args.slots.now in
-    rw (p.1, p.2) (record {
-      call = refused_kept m r mem (g.H.Hierarchy.lawful c.args.self.now.hierarchy.now) g.S.Value.ValueKind.laws (Move c.args.place c.args.amount) _ c.in_err-check.ensures;
-      hierarchy = refl;
-      scheme = refl;
-    })
-
-pub returns : goal.returns
-returns g c =
-    let m = g.H.Hierarchy.meaning c.args.self.now.hierarchy.now in
-    let r = rule g.S.Scheme g.S.Value.ValueKind c.args.self.now.scheme.now in
-    let mem = lending c.args.self.now.state c.args.points.now c.args.slots.now in
-    record {
-      call = served_kept m r mem (g.H.Hierarchy.lawful c.args.self.now.hierarchy.now) g.S.Value.ValueKind.laws (Move c.args.place c.args.amount) _ _ _ _ c.in_ok-check.ensures refl refl c.add.ensures c.put.ensures;
-      hierarchy = refl;
-      scheme = refl;
-    }
+pub returns-clause-call : goal.returns-clause-call
+returns-clause-call g c =
+    let m = g.H.Hierarchy.meaning c.args.self.now.setting.hierarchy.now in
+    let r = rule g.S.Scheme g.S.Value.ValueKind c.args.self.now.setting.scheme.now in
+    let st = c.args.self.now.state in
+    let mem = lending st c.args.points.now c.args.slots.now in
+    served_kept m r mem (g.H.Hierarchy.lawful c.args.self.now.setting.hierarchy.now) g.S.Value.ValueKind.laws (Move c.args.place c.args.amount) _ _ c.in_ok-check.ensures.passed refl refl (λ i. lending (surviving st (st.survivors + 1)) (c.add.ensures i) (listed st (Move c.args.place c.args.amount) c.args.slots.now))
