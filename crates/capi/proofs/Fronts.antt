@@ -1,6 +1,6 @@
 -- The front of a list, overwritten element by element.
 use Rattle.std.proofs.Common.{◌≡◌, ℕ, ◌+◌, ◌<◌, List, [], ◌∷◌, ◌++◌, map, length, get_or, take, drop, set, sym, refl, ap, ◌∙◌, append_assoc, append-nil, arith}
-use Rattle.std.proofs.lemmas.List.{set_at, drop_more, drop_all, map_more, length-map, length-take-le, take_all}
+use Rattle.std.proofs.lemmas.List.{set_at, drop_more, drop_all, map_more, length-map, length-take-le}
 
 module _ {X Y : Type 0} (f : X → Y) where
   pub front_more : (xs : List X) (rs now : List Y) (i : ℕ) (x : X) → i < length xs → i < length rs → x ≡ get_or xs i x → now ≡ map f (take i xs) ++ drop i rs → set now i (f x) ≡ map f (take (i + 1) xs) ++ drop (i + 1) rs
@@ -14,9 +14,8 @@ module _ {X Y : Type 0} (f : X → Y) where
       ap (λ l. set l i (f x)) (before ∙ ap (λ l. map f (take i xs) ++ l) rest) ∙ one ∙ sym joined ∙ ap (λ l. l ++ drop (i + 1) rs) (ap (λ y. map f (take i xs) ++ y ∷ []) (sym same) ∙ sym more)
 
   -- every element, where the lists are as long
-  pub front_whole : (xs : List X) (rs : List Y) (n : ℕ) → n ≡ length xs → length xs ≡ length rs → map f (take n xs) ++ drop n rs ≡ map f xs
-  front_whole xs rs n all same =
-      ap (λ l. map f l ++ drop n rs) (take_all n xs (omega arith)) ∙ ap (λ l. map f xs ++ l) (drop_all n rs (omega arith)) ∙ append-nil (map f xs)
+  pub front_whole : (xs : List X) (rs : List Y) → length xs ≡ length rs → map f xs ++ drop (length xs) rs ≡ map f xs
+  front_whole xs rs same = ap (λ l. map f xs ++ l) (drop_all (length xs) rs (omega arith)) ∙ append-nil (map f xs)
 
 -- what is made there and back again is as it was
 pub there_and_back : {X Y : Type 0} (f : X → Y) (g : Y → X) → ((y : Y) → f (g y) ≡ y) → (ys : List Y) → map f (map g ys) ≡ ys

@@ -1,3 +1,2 @@
-pub mod BothWays
 pub mod Fronts
 pub mod Promised

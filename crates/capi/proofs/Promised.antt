@@ -1,5 +1,5 @@
 -- What follows from the promise, for a run whose answer is known.
-use Rattle.std.proofs.Common.{◌≡◌, ℕ, ◌≤◌, min, Bool, ◌⊎◌, List, length, None, Ok, Err, Result, sym, refl, subst, inl, inr, ⊎_elim, arith, length-take}
+use Rattle.std.proofs.Common.{◌≡◌, ℕ, ◌≤◌, min, Bool, ◌⊎◌, List, map, length, None, Ok, Err, Result, sym, refl, subst, inl, inr, ⊎_elim, arith, length-take}
 use native.Mathlib.Nat.{min-le_left}
 use Rattle.refusal.specs.declared.Refusal.{Refusal}
 use Rattle.hierarchy.specs.Meaning.{Meaning}
@@ -10,8 +10,8 @@ use Rattle.history.specs.declared.call.Call.{Call}
 use Rattle.capi.specs.declared.crossing.Crossing as Crossing
 use Rattle.capi.specs.declared.records.CallRecord.{CallRecord}
 use Rattle.capi.specs.declared.stop.Stop.{Stop}
-use Rattle.capi.specs.Jobs.{Handed, Run, Called, Performs}
-use Rattle.capi.specs.Records.{unknown_call}
+use Rattle.capi.specs.Jobs.{Handed, Run, Called, Performs, written}
+use Rattle.capi.specs.Records.{call_of, slot_of, unknown_call}
 use Rattle.capi.specs.Schemes.{Law}
 use Rattle.capi.specs.Stops.{settled}
 
@@ -38,6 +38,15 @@ module _ {V : Type 0} (m : Meaning) (r : Rule V) (needs : Bool) (depth : ℕ) (c
       (either (opening_verdict m needs (length before.points) (length before.slots) depth))
 
 module _ {V : Type 0} (k : Crossing.Ghosts V) (m : Meaning) (l : Law V) (depth : ℕ) (calls : List CallRecord) (before left : Handed V) where
-  pub performs : (result : Result ℕ Stop) → unknown_call calls ≡ None → (answer : Result ℕ Refusal) → result ≡ settled answer → Run k m l depth calls before left answer → Performs k m l depth calls before left result
-  performs result all_Known answer is run =
-      inr (subst (λ o. Called o k m l depth calls before left result) (sym all_Known) (answer, is, run))
+  pub performs : (result : Result ℕ Stop) (answer : Result ℕ Refusal) → unknown_call calls ≡ None → result ≡ settled answer → (lent end : Lent V) (asked : List (Call V)) → asked ≡ map (call_of k.arrives) calls → lent.points ≡ before.points → lent.slots ≡ map (slot_of k.arrives) before.slots → length lent.answers ≡ length before.answers → Promise m l.rule l.uniform depth asked lent end answer → left ≡ written k answer before end → Performs k m l depth calls before left result
+  performs result answer all_known is lent end asked as_asked points slots room promise leaves =
+      let run : Run k m l depth calls before left answer = record {
+        lent = lent;
+        end = end;
+        points = points;
+        slots = slots;
+        room = room;
+        promise = subst (λ cs. Promise m l.rule l.uniform depth cs lent end answer) as_asked promise;
+        leaves = leaves;
+      } in
+      inr (subst (λ o. Called o k m l depth calls before left result) (sym all_known) (answer, is, run))

@@ -4,6 +4,7 @@ use Rattle.refusal.specs.declared.Refusal.{Refusal}
 use Rattle.hierarchy.specs.Meaning.{Meaning}
 use Rattle.history.specs.Promise.{Lent, Promise}
 use Rattle.capi.specs.declared.crossing.Crossing as Crossing
+use Rattle.capi.specs.declared.job.Job.{Job}
 use Rattle.capi.specs.declared.point_scheme.PointScheme.{PointScheme}
 use Rattle.capi.specs.declared.records.CallRecord.{CallRecord}
 use Rattle.capi.specs.declared.records.AnswerRecord.{AnswerRecord}
@@ -24,6 +25,14 @@ pub record Handed (V : Type 0) : Type 0 where
 
 abbrev pub handed : {V : Type 0} → List V → List SlotRecord → List AnswerRecord → Handed V
 handed points slots answers = record { points = points; slots = slots; answers = answers }
+
+-- the points, with what a job holds
+abbrev pub beside : {V : Type 0} → List V → Job → Handed V
+beside points job = handed points job.slots.now job.answers.now
+
+-- a job that still holds the same memory
+abbrev pub SameMemory : Job → Job → Type 0
+SameMemory before left = (left.slots.ghost_name ≡ before.slots.ghost_name) × (left.answers.ghost_name ≡ before.answers.ghost_name)
 
 -- what a run leaves there: where it was not refused, its points, its move list, and as many answers as there were calls made;
 -- room that is not used stays. A refusal changes nothing

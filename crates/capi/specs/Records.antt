@@ -1,11 +1,12 @@
 -- What the records that cross to C mean.
-use Rattle.std.specs.Prelude.{◌≡◌, ℕ, Bool, true, cond, not, ◌&&◌, List, length, Option, ◌==◌, nat_le, slice_index_or}
+use Rattle.std.specs.Prelude.{◌≡◌, ℕ, Bool, true, cond, not, ◌&&◌, List, length, Option, Result, Ok, Err, ◌==◌, nat_le, slice_index_or}
 use Rattle.refusal.specs.Table.{row}
 use Rattle.kinds.specs.MarkSums.{unmarked}
 use Rattle.kinds.specs.PointSums.{origin}
 use Rattle.mesh.specs.Lowest.{lowest}
-use Rattle.history.specs.declared.answer.Answer.{Answer}
-use Rattle.history.specs.declared.answer.Answer.TheVariants.{Depth, Count, Value, Refused}
+use Rattle.refusal.specs.declared.Refusal.{Refusal}
+use Rattle.history.specs.declared.answer.Reply.{Reply}
+use Rattle.history.specs.declared.answer.Reply.TheVariants.{Depth, Count, Value}
 use Rattle.history.specs.declared.call.Call.{Call}
 use Rattle.history.specs.declared.call.Request.{Request}
 use Rattle.history.specs.declared.call.Request.TheVariants.{Analyse, Synthesise, Move, TakeBack, Read}
@@ -50,15 +51,19 @@ asking leaves points slots (Read place) = record { code = 5; place = place; amou
 abbrev pub Askable : {V : Type 0} → (PointAndMarks → V) → (V → PointAndMarks) → Type 0
 Askable {V} arrives leaves = (c : Call V) → (known (asking leaves c.points c.slots c.request).code ≡ true) × (call_of arrives (asking leaves c.points c.slots c.request) ≡ c)
 
-abbrev pub answer_record : {V : Type 0} → (V → PointAndMarks) → Answer V → AnswerRecord
-answer_record leaves (Depth n) = record { code = 1; row = 0; number = n; value = nothing }
-answer_record leaves (Count n) = record { code = 2; row = 0; number = n; value = nothing }
-answer_record leaves (Value v) = record { code = 3; row = 0; number = 0; value = leaves v }
-answer_record leaves (Refused e) = record { code = 4; row = (row e).number; number = (row e).value; value = nothing }
+abbrev pub answer_record : {V : Type 0} → (V → PointAndMarks) → Result (Reply V) Refusal → AnswerRecord
+answer_record leaves (Ok (Depth n)) = record { code = 1; row = 0; number = n; value = nothing }
+answer_record leaves (Ok (Count n)) = record { code = 2; row = 0; number = n; value = nothing }
+answer_record leaves (Ok (Value v)) = record { code = 3; row = 0; number = 0; value = leaves v }
+answer_record leaves (Err e) = record { code = 4; row = (row e).number; number = (row e).value; value = nothing }
 
 -- nothing of an answer is lost: no two have the same record
 abbrev pub Distinct : {V : Type 0} → (V → PointAndMarks) → Type 0
-Distinct {V} leaves = (a b : Answer V) → answer_record leaves a ≡ answer_record leaves b → a ≡ b
+Distinct {V} leaves = (a b : Result (Reply V) Refusal) → answer_record leaves a ≡ answer_record leaves b → a ≡ b
+
+-- the conversion gives what the function says, and nothing else
+abbrev pub Computes : {X Y : Type 0} → (X → Y → Type 0) → (X → Y) → Type 0
+Computes {X} {Y} gives f = (x : X) (y : Y) → gives x y → y ≡ f x
 
 abbrev pub slot_of : {V : Type 0} → (PointAndMarks → V) → SlotRecord → Slot V
 slot_of arrives s = record { place = s.place; depth = s.depth; amount = arrives s.amount }

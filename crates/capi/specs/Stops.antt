@@ -22,9 +22,9 @@ Stopped Memory due = Unit {0}
 Stopped (UnknownScheme code) due = ⊥
 Stopped (UnknownCall i) due = ⊥
 
--- stopped at the call that was found to be unknown
-abbrev pub UnknownAt : Option ℕ → Stop → Type 0
-UnknownAt found (Refused e) = ⊥
-UnknownAt found Memory = ⊥
-UnknownAt found (UnknownScheme code) = ⊥
-UnknownAt found (UnknownCall i) = found ≡ Some i
+-- the calls were not read: one was found to be unknown, or there was no memory
+abbrev pub Unread : Option ℕ → Stop → Type 0
+Unread found (Refused e) = ⊥
+Unread found Memory = Unit {0}
+Unread found (UnknownScheme code) = ⊥
+Unread found (UnknownCall i) = found ≡ Some i

@@ -1,56 +1,46 @@
 // From the records of C to calls and slots, and from answers and slots to records.
-ghost use Rattle.std.specs.Prelude.{◌≡◌};
-ghost use Rattle.refusal.specs.Table.{row};
-ghost use Rattle.history.specs.declared.answer.Answer.TheVariants.{Count};
+ghost use Rattle.std.specs.Prelude.{◌≡◌, true, OkIff};
 ghost use Rattle.capi.specs.Crossings.{of_pairs};
-ghost use Rattle.capi.specs.Records.{nothing, request_of, call_of, answer_record, slot_of, slot_record, Askable, Distinct};
+ghost use Rattle.capi.specs.Records.{known, nothing, call_of, answer_record, slot_of, slot_record, Askable, Distinct};
 
 use crate::crossing::Crossing;
 use crate::records::{AnswerRecord, CallRecord, PointAndMarks, SlotRecord};
-use history::{Answer, Call, Request, Slot};
-use kinds::{Marks, Pair, Point, ValueKind};
-use refusal::Refusal;
+use history::{Answer, Call, Reply, Request, Slot};
+use kinds::{MarkedPoint, Marks, Point, ValueKind};
 
-// What is made from a record of C, or as one.
-pub trait MadeFrom<R>: Copy {
-    ghost of: { R → Self };
+// No call has this code.
+#[derive(Clone, Copy)]
+pub struct UnknownCode;
 
-    fn made_from(source: R) -> Self
-        ensures { result ≡ of source };
-}
+impl<V: Crossing> TryFrom<CallRecord> for Call<V> {
+    type Error = UnknownCode;
 
-// A code that is none is read as that of a read; it is judged before.
-fn request_of<V: Crossing>(record: CallRecord) -> Request<V>
-    ensures { result ≡ request_of V.Crossing.arrives «record» }
-{
-    match record.code {
-        1 => Request::Analyse,
-        2 => Request::Synthesise,
-        3 => Request::Move(record.place, V::arrive(record.amount)),
-        4 => Request::TakeBack,
-        _ => Request::Read(record.place),
-    }
-}
+    ghost try_from_gives = { λ source r. OkIff r (known source.code ≡ true) (call_of V.Crossing.arrives source) };
 
-impl<V: Crossing> MadeFrom<CallRecord> for Call<V> {
-    ghost of = { call_of V.Crossing.arrives };
-
-    fn made_from(source: CallRecord) -> Call<V>
-        ensures value { result ≡ call_of V.Crossing.arrives source }
+    fn try_from(source: CallRecord) -> Result<Call<V>, UnknownCode>
+        ensures value { OkIff result (known source.code ≡ true) (call_of V.Crossing.arrives source) }
         ensures askable { Askable V.Crossing.arrives V.Crossing.leaves }
     {
-        Call {
-            request: request_of(source),
+        let request = match source.code {
+            1 => Request::Analyse,
+            2 => Request::Synthesise,
+            3 => Request::Move(source.place, V::arrive(source.amount)),
+            4 => Request::TakeBack,
+            5 => Request::Read(source.place),
+            _ => return Err(UnknownCode),
+        };
+        Ok(Call {
+            request,
             points: source.points,
             slots: source.slots,
-        }
+        })
     }
 }
 
-impl<V: Crossing> MadeFrom<SlotRecord> for Slot<V> {
-    ghost of = { slot_of V.Crossing.arrives };
+impl<V: Crossing> From<SlotRecord> for Slot<V> {
+    ghost from_gives = { λ source slot. slot ≡ slot_of V.Crossing.arrives source };
 
-    fn made_from(source: SlotRecord) -> Slot<V> {
+    fn from(source: SlotRecord) -> Slot<V> {
         Slot {
             place: source.place,
             depth: source.depth,
@@ -59,10 +49,10 @@ impl<V: Crossing> MadeFrom<SlotRecord> for Slot<V> {
     }
 }
 
-impl<V: Crossing> MadeFrom<Slot<V>> for SlotRecord {
-    ghost of = { slot_record V.Crossing.leaves };
+impl<V: Crossing> From<Slot<V>> for SlotRecord {
+    ghost from_gives = { λ source r. r ≡ slot_record V.Crossing.leaves source };
 
-    fn made_from(source: Slot<V>) -> SlotRecord {
+    fn from(source: Slot<V>) -> SlotRecord {
         SlotRecord {
             place: source.place,
             depth: source.depth,
@@ -80,70 +70,40 @@ fn no_value() -> PointAndMarks
     }
 }
 
-fn number_record(code: usize, number: usize) -> AnswerRecord
-    ensures { result ≡ record { code = code; row = 0; number = number; value = nothing } }
-{
-    AnswerRecord {
-        code,
-        row: 0,
-        number,
-        value: no_value(),
-    }
-}
+impl<V: Crossing> From<Answer<V>> for AnswerRecord {
+    ghost from_gives = { λ source r. r ≡ answer_record V.Crossing.leaves source };
 
-fn refusal_record(refusal: Refusal) -> AnswerRecord
-    ensures { result ≡ record { code = 4; row = (row refusal).number; number = (row refusal).value; value = nothing } }
-{
-    AnswerRecord {
-        code: 4,
-        row: refusal.number(),
-        number: refusal.value(),
-        value: no_value(),
-    }
-}
-
-impl<V: Crossing> MadeFrom<Answer<V>> for AnswerRecord {
-    ghost of = { answer_record V.Crossing.leaves };
-
-    fn made_from(source: Answer<V>) -> AnswerRecord
+    fn from(source: Answer<V>) -> AnswerRecord
         ensures value { result ≡ answer_record V.Crossing.leaves source }
         ensures distinct { Distinct V.Crossing.leaves }
     {
-        match source {
-            Answer::Depth(depth) => number_record(1, depth),
-            Answer::Count(count) => number_record(2, count),
-            Answer::Value(value) => AnswerRecord {
-                code: 3,
-                row: 0,
-                number: 0,
-                value: value.leave(),
-            },
-            Answer::Refused(refusal) => refusal_record(refusal),
+        let (code, row, number, value) = match source {
+            Ok(Reply::Depth(depth)) => (1, 0, depth, no_value()),
+            Ok(Reply::Count(count)) => (2, 0, count, no_value()),
+            Ok(Reply::Value(value)) => (3, 0, 0, value.leave()),
+            Err(refusal) => (4, refusal.number(), refusal.value(), no_value()),
+        };
+        AnswerRecord {
+            code,
+            row,
+            number,
+            value,
         }
     }
 }
 
-// Room for an answer, where the caller has room for its record.
-impl<V: Crossing> MadeFrom<AnswerRecord> for Answer<V> {
-    ghost of = { λ _. Count 0 };
+impl From<PointAndMarks> for MarkedPoint {
+    ghost from_gives = { λ source pair. pair ≡ of_pairs.arrives source };
 
-    fn made_from(_source: AnswerRecord) -> Answer<V> {
-        Answer::Count(0)
+    fn from(source: PointAndMarks) -> MarkedPoint {
+        <MarkedPoint as Crossing>::arrive(source)
     }
 }
 
-impl MadeFrom<PointAndMarks> for Pair<Point, Marks> {
-    ghost of = { of_pairs.arrives };
+impl From<MarkedPoint> for PointAndMarks {
+    ghost from_gives = { λ source carried. carried ≡ of_pairs.leaves source };
 
-    fn made_from(source: PointAndMarks) -> Pair<Point, Marks> {
-        <Pair<Point, Marks> as Crossing>::arrive(source)
-    }
-}
-
-impl MadeFrom<Pair<Point, Marks>> for PointAndMarks {
-    ghost of = { of_pairs.leaves };
-
-    fn made_from(source: Pair<Point, Marks>) -> PointAndMarks {
+    fn from(source: MarkedPoint) -> PointAndMarks {
         source.leave()
     }
 }

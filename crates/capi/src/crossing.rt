@@ -9,6 +9,7 @@ use crate::records::PointAndMarks;
 use kinds::{Marks, Pair, Point, ValueKind};
 
 // A value kind whose values are carried by a point with marks. A part that the kind has not is not looked at, and leaves as 0.
+// Not From and Into: what those do is a relation, and two more laws would have to make functions of it.
 pub trait Crossing: ValueKind {
     ghost arrives: { PointAndMarks → Self };
 

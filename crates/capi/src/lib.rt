@@ -5,6 +5,7 @@ mod converting;
 mod crossing;
 mod exports;
 mod hierarchies;
+mod job;
 mod lists;
 mod outcome;
 mod point_scheme;

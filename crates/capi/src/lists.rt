@@ -1,52 +1,47 @@
 // Lists of records, read and written.
-ghost use Rattle.std.specs.Prelude.{◌≡◌, ◌≤◌, ◌++◌, map, length, take, drop, IfOk, None, MatchResult};
-ghost use Rattle.capi.specs.Records.{known as is_Known, unknown_call};
-ghost use Rattle.capi.specs.Stops.{UnknownAt};
+ghost use Rattle.std.specs.Prelude.{◌≡◌, ◌≤◌, ◌++◌, map, length, drop, IfOk, None, MatchResult};
+ghost use Rattle.capi.specs.Records.{call_of, unknown_call, Computes};
+ghost use Rattle.capi.specs.Stops.{Unread};
 
-use crate::converting::MadeFrom;
+use crate::crossing::Crossing;
 use crate::records::CallRecord;
 use crate::stop::Stop;
+use history::Call;
 use std::alloc::{AllocError, Global};
 
 // What the records say, one by one.
-pub(crate) fn read_all<R: Copy, T: MadeFrom<R>>(
+pub(crate) fn read_all<R: Copy, T: From<R> + Copy>(
     heap: Global,
     records: &[R],
 ) -> Result<Vec<T>, AllocError>
-    ensures { IfOk result (λ v. v.items ≡ map T.MadeFrom.of records.now) }
+    ensures { (f : R → T) → Computes T.from_gives f → IfOk result (λ v. v.items ≡ map f records.now) }
 {
-    let mut items = Vec::new(heap);
-    for i in 0..records.len() {
-        items.push(T::made_from(records[i]))?;
-    }
-    Ok(items)
+    records.iter().map(|record| T::from(*record)).collect(heap)
 }
 
-// The first so many items, written over the first records.
-pub(crate) fn write_front<T: Copy, R: MadeFrom<T>>(records: &mut [R], items: &[T], count: usize)
-    requires records { count ≤ length records.old }
-    requires items { count ≤ length items.now }
-    ensures { records.new ≡ map R.MadeFrom.of (take count items.now) ++ drop count records.old }
+// The calls, or the first whose code is none.
+pub(crate) fn read_calls<V: Crossing>(
+    heap: Global,
+    records: &[CallRecord],
+) -> Result<Vec<Call<V>>, Stop>
+    ensures { MatchResult result (λ v. (unknown_call records.now ≡ None) × (v.items ≡ map (call_of V.Crossing.arrives) records.now)) (Unread (unknown_call records.now)) }
 {
-    for i in 0..count {
-        records[i] = R::made_from(items[i]);
-    }
-}
-
-fn is_known(call: CallRecord) -> bool
-    ensures { result ≡ is_Known call.code }
-{
-    1 <= call.code && call.code <= 5
-}
-
-// Stops at the first call whose code is none.
-pub(crate) fn check_calls(calls: &[CallRecord]) -> Result<(), Stop>
-    ensures { MatchResult result (λ _. unknown_call calls.now ≡ None) (UnknownAt (unknown_call calls.now)) }
-{
-    for i in 0..calls.len() {
-        if !is_known(calls[i]) {
+    let mut calls = Vec::new(heap);
+    for (i, record) in records.iter().enumerate() {
+        let Ok(call) = Call::try_from(*record) else {
             return Err(Stop::UnknownCall(i));
-        }
+        };
+        calls.push(call)?;
     }
-    Ok(())
+    Ok(calls)
+}
+
+// The items, written over the first records; not by a zip over iter_mut, after which a proof knows nothing of the records.
+pub(crate) fn write_front<T: Copy, R: From<T> + Copy>(records: &mut [R], items: &[T])
+    requires { length items.now ≤ length records.old }
+    ensures { (f : T → R) → Computes R.from_gives f → records.new ≡ map f items.now ++ drop (length items.now) records.old }
+{
+    for (i, item) in items.iter().enumerate() {
+        records[i] = R::from(*item);
+    }
 }

@@ -1,46 +1,21 @@
 // What is returned to C.
-ghost use Rattle.std.specs.Prelude.{◌≡◌, Err};
+ghost use Rattle.std.specs.Prelude.{◌≡◌};
 ghost use Rattle.capi.specs.Outcomes.{told};
-ghost use Rattle.capi.specs.declared.stop.Stop.TheVariants.{Refused};
 
 use crate::records::Outcome;
 use crate::stop::Stop;
-use refusal::Refusal;
 
-fn refused(refusal: Refusal) -> Outcome
-    ensures { result ≡ told (Err (Refused refusal)) }
-{
-    Outcome {
-        status: 1,
-        row: refusal.number(),
-        value: refusal.value(),
-    }
-}
+impl From<Result<usize, Stop>> for Outcome {
+    ghost from_gives = { λ res r. r ≡ told res };
 
-pub(crate) fn outcome_of(res: Result<usize, Stop>) -> Outcome
-    ensures { result ≡ told res }
-{
-    match res {
-        Ok(value) => Outcome {
-            status: 0,
-            row: 0,
-            value,
-        },
-        Err(Stop::Refused(refusal)) => refused(refusal),
-        Err(Stop::Memory) => Outcome {
-            status: 2,
-            row: 0,
-            value: 0,
-        },
-        Err(Stop::UnknownScheme(value)) => Outcome {
-            status: 3,
-            row: 0,
-            value,
-        },
-        Err(Stop::UnknownCall(value)) => Outcome {
-            status: 4,
-            row: 0,
-            value,
-        },
+    fn from(res: Result<usize, Stop>) -> Outcome {
+        let (status, row, value) = match res {
+            Ok(value) => (0, 0, value),
+            Err(Stop::Refused(refusal)) => (1, refusal.number(), refusal.value()),
+            Err(Stop::Memory) => (2, 0, 0),
+            Err(Stop::UnknownScheme(code)) => (3, 0, code),
+            Err(Stop::UnknownCall(i)) => (4, 0, i),
+        };
+        Outcome { status, row, value }
     }
 }

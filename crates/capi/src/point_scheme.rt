@@ -11,13 +11,17 @@ pub enum PointScheme {
     Cubic,
 }
 
-// The scheme of this code: 1 linear, 2 cubic.
-pub(crate) fn point_scheme_of(code: usize) -> Result<PointScheme, Stop>
-    ensures { MatchResult result (λ s. scheme_of code ≡ Some s) (λ stop. (scheme_of code ≡ None) × (stop ≡ UnknownScheme code)) }
-{
-    match code {
-        1 => Ok(PointScheme::Linear),
-        2 => Ok(PointScheme::Cubic),
-        _ => Err(Stop::UnknownScheme(code)),
+// By the code: 1 linear, 2 cubic.
+impl TryFrom<usize> for PointScheme {
+    type Error = Stop;
+
+    ghost try_from_gives = { λ code r. MatchResult r (λ s. scheme_of code ≡ Some s) (λ stop. (scheme_of code ≡ None) × (stop ≡ UnknownScheme code)) };
+
+    fn try_from(code: usize) -> Result<PointScheme, Stop> {
+        match code {
+            1 => Ok(PointScheme::Linear),
+            2 => Ok(PointScheme::Cubic),
+            _ => Err(Stop::UnknownScheme(code)),
+        }
     }
 }

@@ -4,8 +4,9 @@ ghost use Rattle.capi.specs.Stops.{stop_of};
 ghost use Rattle.capi.specs.declared.stop.Stop.TheVariants.{Refused as Refused-by, Memory as No-memory};
 
 use refusal::{Fault, Refusal};
-use std::alloc::AllocError;
+use std::alloc::{AllocError, AllocFailed as Unstored};
 
+// A `Fault` inside would be taken apart in the one place where a stop is told, so its two cases stand here.
 #[derive(Clone, Copy)]
 pub enum Stop {
     // what was handed in is refused
@@ -30,6 +31,14 @@ impl From<AllocError> for Stop {
     ghost from_gives = { λ _ r. r ≡ No-memory };
 
     fn from(_e: AllocError) -> Stop {
+        Stop::Memory
+    }
+}
+
+impl<T: Drop> From<Unstored<T>> for Stop {
+    ghost from_gives = { λ _ r. r ≡ No-memory };
+
+    fn from(_e: Unstored<T>) -> Stop {
         Stop::Memory
     }
 }
