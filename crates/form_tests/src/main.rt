@@ -4,38 +4,14 @@
 use curve::Curve;
 use form::perform;
 use hierarchy::Hierarchy;
-use history::{Answer, Call, Request, Slot};
+use history::{Answer, Call, Reply, Request, Slot};
 use kinds::Point;
 use plan::Plan;
-use refusal::{Fault, Refusal};
+use refusal::Fault;
 use schemes::{Cubic, Linear, Scheme};
 use std::io;
 
-#[derive(Debug, Drop)]
-enum Trouble {
-    Refused(Refusal),
-    Unplanned(Fault),
-    Unprinted(io::Error),
-}
-
-impl From<Refusal> for Trouble {
-    fn from(e: Refusal) -> Trouble {
-        Trouble::Refused(e)
-    }
-}
-
-impl From<Fault> for Trouble {
-    fn from(e: Fault) -> Trouble {
-        Trouble::Unplanned(e)
-    }
-}
-
-impl From<io::Error> for Trouble {
-    fn from(e: io::Error) -> Trouble {
-        Trouble::Unprinted(e)
-    }
-}
-
+// As in transform_tests: a crate for these three lines would be no shorter.
 fn at(x: i32) -> Point {
     Point::new(x, 0, 0)
 }
@@ -53,21 +29,15 @@ fn lending(request: Request<Point>, points: usize, slots: usize) -> Call<Point> 
     }
 }
 
-fn show_refusal(rt: &HostRuntime, refusal: Refusal) -> io::Result<()> {
-    let number = refusal.number();
-    let value = refusal.value();
-    println!(rt; "refused {number} {value}")
-}
-
 fn show(rt: &HostRuntime, answer: Answer<Point>) -> io::Result<()> {
     match answer {
-        Answer::Depth(depth) => println!(rt; "depth {depth}"),
-        Answer::Count(count) => println!(rt; "count {count}"),
-        Answer::Value(point) => {
+        Ok(Reply::Depth(depth)) => println!(rt; "depth {depth}"),
+        Ok(Reply::Count(count)) => println!(rt; "count {count}"),
+        Ok(Reply::Value(point)) => {
             let x = point.x;
             println!(rt; "value {x}")
         }
-        Answer::Refused(refusal) => show_refusal(rt, refusal),
+        Err(refusal) => rt.println(refusal),
     }
 }
 
@@ -82,20 +52,7 @@ fn show_points(rt: &HostRuntime, points: &[Point]) -> io::Result<()> {
 
 // Crosses levels between moves and their taking back, meeting refusals on the way.
 fn crossing<H: Hierarchy>(rt: &HostRuntime, h: &H, depth: usize) -> io::Result<()> {
-    let mut points = [
-        at(0),
-        at(8),
-        at(3),
-        at(5),
-        at(6),
-        at(1),
-        at(-7),
-        at(2),
-        at(9),
-        at(4),
-        at(-5),
-        at(11),
-    ];
+    let mut points = [0, 8, 3, 5, 6, 1, -7, 2, 9, 4, -5, 11].map(at);
     let blank = Slot {
         place: 99,
         depth: 99,
@@ -122,7 +79,7 @@ fn crossing<H: Hierarchy>(rt: &HostRuntime, h: &H, depth: usize) -> io::Result<(
         whole(Request::Read(7)),
         whole(Request::TakeBack),
     ];
-    let mut answers = [Answer::Count(77); 20];
+    let mut answers = [Ok(Reply::Count(77)); 20];
     match perform(
         h,
         &Linear,
@@ -138,19 +95,19 @@ fn crossing<H: Hierarchy>(rt: &HostRuntime, h: &H, depth: usize) -> io::Result<(
                 show(rt, *answer)?;
             }
         }
-        Err(refusal) => show_refusal(rt, refusal)?,
+        Err(refusal) => rt.println(refusal)?,
     }
     show_points(rt, &points)
 }
 
 // A scheme that needs a uniform hierarchy, on an open curve.
 fn cubic<H: Hierarchy>(rt: &HostRuntime, h: &H) -> io::Result<()> {
-    let mut points = [at(1), at(2), at(3)];
+    let mut points = [1, 2, 3].map(at);
     let mut slots = [];
     let mut answers = [];
     match perform(h, &Cubic, &mut points, &mut slots, 0, &[], &mut answers) {
         Ok(count) => println!(rt; "calls {count}"),
-        Err(refusal) => show_refusal(rt, refusal),
+        Err(refusal) => rt.println(refusal),
     }
 }
 
@@ -166,27 +123,17 @@ fn beginnings<H: Hierarchy>(rt: &HostRuntime, h: &H) -> io::Result<()> {
         lending(Request::TakeBack, 9, 1),
     ];
     for made in 1..8 {
-        let mut points = [
-            at(0),
-            at(10),
-            at(20),
-            at(30),
-            at(6),
-            at(15),
-            at(25),
-            at(14),
-            at(16),
-        ];
+        let mut points = [0, 10, 20, 30, 6, 15, 25, 14, 16].map(at);
         let mut slots = [Slot {
             place: 0,
             depth: 0,
             amount: at(0),
         }];
-        let mut answers = [Answer::Count(77); 7];
+        let mut answers = [Ok(Reply::Count(77)); 7];
         let room = &mut answers[..made];
         match perform(h, &Linear, &mut points, &mut slots, 1, &calls, room) {
             Ok(_) => show(rt, room[made - 1])?,
-            Err(refusal) => show_refusal(rt, refusal)?,
+            Err(refusal) => rt.println(refusal)?,
         }
         show_points(rt, &points)?;
     }
@@ -201,11 +148,11 @@ fn quadrilateral(rt: &HostRuntime) -> Result<Plan, Fault> {
     ];
     let mut plan = Plan::start(rt.alloc())?;
     let mut table = vec![in rt.alloc(); 0; 64]?;
-    let _vertices = plan.plan_bytes(rt.alloc(), &bytes, 1, &mut table)?;
+    plan.plan_bytes(rt.alloc(), &bytes, 1, &mut table)?;
     Ok(plan)
 }
 
-fn main(rt: HostRuntime) -> Result<(), Trouble> {
+fn main(rt: HostRuntime) -> anyhow::Result<()> {
     let triangle = Curve::new(3, true, 2)?;
     crossing(&rt, &triangle, 2)?;
     crossing(&rt, &triangle, 3)?;

@@ -4,59 +4,27 @@
 
 use base::Base;
 use curve::Curve;
-use hierarchy::{Hierarchy, Link};
+use hierarchy::{Hierarchy, Link, members_of};
 use plan::{Plan, needed};
-use refusal::{Fault, Refusal};
-use std::{fs, io};
+use refusal::Fault;
+use std::{fmt, fs, io};
 
-fn show_list<H: Hierarchy>(
-    rt: &HostRuntime,
-    h: &H,
+// The members of a list, each with a space before it.
+#[derive(Drop)]
+struct List<'a, H> {
+    h: &'a H,
     level: usize,
     link: Link,
     of: usize,
-) -> io::Result<()> {
-    let list = h.list(level, link, of);
-    for k in 0..h.list_length(list) {
-        let member = h.list_member(list, k);
-        print!(rt; " {member}")?;
+}
+
+impl<H: Hierarchy> fmt::Display for List<'_, H> {
+    fn fmt<W: fmt::Write>(&self, f: &mut fmt::Formatter<W>) -> fmt::Result {
+        for member in members_of(self.h, self.level, self.link, self.of) {
+            write!(f, " {member}")?;
+        }
+        Ok(())
     }
-    Ok(())
-}
-
-fn show_edge<H: Hierarchy>(rt: &HostRuntime, h: &H, level: usize, edge: usize) -> io::Result<()> {
-    print!(rt; "edge {edge}: ends")?;
-    show_list(rt, h, level, Link::EdgeEnds, edge)?;
-    print!(rt; "; faces")?;
-    show_list(rt, h, level, Link::EdgeFaces, edge)?;
-    let kind = if h.is_curve(level, edge) {
-        "curve"
-    } else {
-        "smooth"
-    };
-    println!(rt; "; {kind}")
-}
-
-fn show_face<H: Hierarchy>(rt: &HostRuntime, h: &H, level: usize, face: usize) -> io::Result<()> {
-    print!(rt; "face {face}: vertices")?;
-    show_list(rt, h, level, Link::FaceVertices, face)?;
-    print!(rt; "; edges")?;
-    show_list(rt, h, level, Link::FaceEdges, face)?;
-    println!(rt; "")
-}
-
-fn show_vertex<H: Hierarchy>(
-    rt: &HostRuntime,
-    h: &H,
-    level: usize,
-    vertex: usize,
-) -> io::Result<()> {
-    print!(rt; "vertex {vertex}: edges")?;
-    show_list(rt, h, level, Link::VertexEdges, vertex)?;
-    print!(rt; "; faces")?;
-    show_list(rt, h, level, Link::VertexFaces, vertex)?;
-    let dimension = h.dimension(level, vertex);
-    println!(rt; "; dimension {dimension}")
 }
 
 fn show_level<H: Hierarchy>(rt: &HostRuntime, h: &H, level: usize) -> io::Result<()> {
@@ -67,14 +35,27 @@ fn show_level<H: Hierarchy>(rt: &HostRuntime, h: &H, level: usize) -> io::Result
     if level >= h.levels() {
         return Ok(());
     }
+    let list = |link, of| List { h, level, link, of };
     for edge in 0..edges {
-        show_edge(rt, h, level, edge)?;
+        let kind = if h.is_curve(level, edge) {
+            "curve"
+        } else {
+            "smooth"
+        };
+        let ends = list(Link::EdgeEnds, edge);
+        let faces = list(Link::EdgeFaces, edge);
+        println!(rt; "edge {edge}: ends{ends}; faces{faces}; {kind}")?;
     }
     for face in 0..faces {
-        show_face(rt, h, level, face)?;
+        let vertices = list(Link::FaceVertices, face);
+        let edges = list(Link::FaceEdges, face);
+        println!(rt; "face {face}: vertices{vertices}; edges{edges}")?;
     }
     for vertex in 0..vertices {
-        show_vertex(rt, h, level, vertex)?;
+        let edges = list(Link::VertexEdges, vertex);
+        let faces = list(Link::VertexFaces, vertex);
+        let dimension = h.dimension(level, vertex);
+        println!(rt; "vertex {vertex}: edges{edges}; faces{faces}; dimension {dimension}")?;
     }
     Ok(())
 }
@@ -87,69 +68,51 @@ fn show<H: Hierarchy>(rt: &HostRuntime, h: &H) -> io::Result<()> {
     Ok(())
 }
 
-fn refused(rt: &HostRuntime, refusal: Refusal) -> io::Result<()> {
-    let number = refusal.number();
-    let value = refusal.value();
-    println!(rt; "refused {number} {value}")
-}
-
-// A plan of the base in a table of just the needed numbers.
-fn planned(rt: &HostRuntime, base: &Base, levels: usize) -> Result<(usize, Plan), Fault> {
-    let need = needed(base, levels)?;
+// A plan of the base in a table of just the needed numbers, and how many these are.
+fn planned(rt: &HostRuntime, bytes: &[u8], levels: usize) -> Result<(usize, Plan), Fault> {
+    let mut base = Base::start(rt.alloc())?;
+    base.read(rt.alloc(), bytes)?;
+    let need = needed(&base, levels)?;
     let mut plan = Plan::start(rt.alloc())?;
     let mut table = vec![in rt.alloc(); 0; need]?;
-    plan.plan_base(base, levels, &mut table)?;
+    plan.plan_base(&base, levels, &mut table)?;
     Ok((need, plan))
 }
 
-fn show_base(rt: &HostRuntime, file: &str, levels: usize) -> anyhow::Result<()> {
+fn show_base(rt: &HostRuntime, file: &str, levels: usize) -> io::Result<()> {
     let bytes = fs::read(rt, file)?;
-    let mut base = Base::start(rt.alloc())?;
-    if let Err(Fault::Refused(refusal)) = base.read(rt.alloc(), &bytes) {
-        refused(rt, refusal)?;
-        return Ok(());
-    }
-    match planned(rt, &base, levels) {
+    match planned(rt, &bytes, levels) {
         Ok((need, plan)) => {
             println!(rt; "need {need}")?;
-            show(rt, &plan)?;
+            show(rt, &plan)
         }
-        Err(Fault::Refused(refusal)) => refused(rt, refusal)?,
-        Err(Fault::Memory) => println!(rt; "out of memory")?,
+        Err(fault) => rt.println(fault),
     }
-    Ok(())
 }
 
 fn show_curve(rt: &HostRuntime, closed: bool, points: usize, levels: usize) -> io::Result<()> {
     match Curve::new(points, closed, levels) {
         Ok(curve) => show(rt, &curve),
-        Err(refusal) => refused(rt, refusal),
+        Err(refusal) => rt.println(refusal),
     }
 }
 
+// The number that the word spells, or 0.
 fn number(word: Option<&str>) -> usize {
-    match word {
-        Some(word) => match word.parse::<usize>() {
-            Ok(number) => number,
-            Err(_) => 0,
-        },
-        None => 0,
-    }
+    word.and_then(|word| word.parse().ok()).unwrap_or(0)
 }
 
-fn run_line(rt: &HostRuntime, line: &str) -> anyhow::Result<()> {
+fn run_line(rt: &HostRuntime, line: &str) -> io::Result<()> {
     let mut words = line.split(' ');
     match words.next() {
-        Some("base") => {
-            if let Some(file) = words.next() {
-                show_base(rt, file, number(words.next()))?;
-            }
-        }
-        Some("open") => show_curve(rt, false, number(words.next()), number(words.next()))?,
-        Some("closed") => show_curve(rt, true, number(words.next()), number(words.next()))?,
-        _ => println!(rt; "no such line")?,
+        Some("base") => match words.next() {
+            Some(file) => show_base(rt, file, number(words.next())),
+            None => Ok(()),
+        },
+        Some("open") => show_curve(rt, false, number(words.next()), number(words.next())),
+        Some("closed") => show_curve(rt, true, number(words.next()), number(words.next())),
+        _ => rt.println("no such line"),
     }
-    Ok(())
 }
 
 fn main(rt: HostRuntime) -> anyhow::Result<()> {
