@@ -14,9 +14,12 @@ shape m = finished (drafted m)
 
 tested : (c : After-first_bad_dimension) → c.first_bad_dimension.result ≡ lowest (bad_dimension (shape c.args.self.now)) (length (shape c.args.self.now).dims)
 tested c =
-    let ds = c.deref-2.ensures.value in
-    let cs = c.deref-3.ensures.value ∙ c.in_ok-curve_edges.ensures ∙ ap₂ marked (λ i. edges (drafted c.args.self.now).faces) (c.deref.ensures.value ∙ c.in_ok-curves.ensures) in
+    let ds = c.deref-3.ensures.value in
+    let cs = c.deref-4.ensures.value ∙ c.in_ok-curve_edges.ensures ∙ ap₂ marked (λ i. edges (drafted c.args.self.now).faces) (c.deref-2.ensures.value ∙ c.in_ok-curves.ensures) in
     c.first_bad_dimension.ensures ∙ (λ i. lowest (λ v. not (fits (get_or (ds i) v 0) (degree (cs i) v))) (length (ds i)))
+
+pub first_open_edge-requires : goal.first_open_edge-requires
+first_open_edge-requires c = c.deref.ensures.value ∙ c.in_ok-curves.ensures
 
 pub returns-in-Some : goal.returns-in-Some
 returns-in-Some c = checked_edges (shape c.args.self.now) c.in-Some.edge (sym c.first_open_edge.ensures ∙ c.in-Some.is)
