@@ -34,13 +34,12 @@ lowest_numbered p xs d =
     ∙ ap (lowest (λ k. p (get_or (enumerate_from 0 xs) k (0, d)))) (length-enumerate_from 0 xs)
     ∙ lowest_same _ _ (length xs) (λ k l. ap p (get_or-enumerate_from 0 xs k (0, d) l ∙ ap (λ j. (j, get_or xs k d)) (zero-add k)))
 
--- the same along two lists of one length
-pub lowest_zipped : {A B : Type 0} (p : A × B → Bool) (xs : List A) (ys : List B) (d : A) (e : B) → length ys ≡ length xs → position p (zip xs ys) ≡ lowest (λ k. p (get_or xs k d, get_or ys k e)) (length xs)
-lowest_zipped p xs ys d e same =
-    let long : length (zip xs ys) ≡ length xs = omega (arith, length-zip xs ys) in
+-- the same along two lists at once
+pub lowest_zipped : {A B : Type 0} (p : A × B → Bool) (xs : List A) (ys : List B) (d : A) (e : B) → position p (zip xs ys) ≡ lowest (λ k. p (get_or xs k d, get_or ys k e)) (min (length xs) (length ys))
+lowest_zipped p xs ys d e =
     lowest_position p (zip xs ys) (d, e)
-    ∙ ap (lowest (λ k. p (get_or (zip xs ys) k (d, e)))) long
-    ∙ lowest_same _ _ (length xs) (λ k l. ap p (get_or-zip xs ys k (d, e) l (omega arith)))
+    ∙ ap (lowest (λ k. p (get_or (zip xs ys) k (d, e)))) (length-zip xs ys)
+    ∙ lowest_same _ _ (min (length xs) (length ys)) (λ k l. ap p (get_or-zip xs ys k (d, e) (omega arith) (omega arith)))
 
 -- a search along the numbers below n
 pub lowest_found_in : (p : ℕ → Bool) (n : ℕ) (r : Option ℕ) → MatchOption r ((k : ℕ) → 0 ≤ k → k < n → p k ≡ false) (λ i. (0 ≤ i) × (i < n) × (p i ≡ true) × ((k : ℕ) → 0 ≤ k → k < i → p k ≡ false)) → r ≡ lowest p n

@@ -1,10 +1,11 @@
 // The rules that can be judged only once all records are read.
-ghost use Rattle.std.specs.Prelude.{◌≡◌, not, length, IfOk, MatchResult, slice_index};
+ghost use Rattle.std.specs.Prelude.{◌≡◌, not, length, min, IfOk, MatchResult, slice_index};
 ghost use Rattle.mesh.specs.Lowest.{lowest};
 ghost use Rattle.mesh.specs.Reading.{checked, finished, open_edge, bad_valence};
 ghost use Rattle.mesh.specs.Rules.{fits};
 ghost use Rattle.mesh.specs.Shape.{degree, edges};
 ghost use Rattle.base.specs.Drafts.{drafted, Failed, Judged};
+ghost use Rattle.base.specs.Meshes.{with_marks};
 
 use crate::draft::Draft;
 use crate::sides::{count_at, count_uses, has_corner};
@@ -44,10 +45,9 @@ impl Draft {
             .collect(heap)
     }
 
-    // The lowest edge that has one face and is no curve.
+    // Of the edges that have a mark here, the lowest that has one face and is no curve.
     fn first_open_edge(&self, curves: &[bool]) -> Option<usize>
-        requires { curves.now ≡ (finished (drafted self.now)).curves }
-        ensures { result ≡ lowest (open_edge (finished (drafted self.now))) (length (edges (drafted self.now).faces)) }
+        ensures { result ≡ lowest (open_edge (with_marks self.now.mesh curves.now)) (min (length (edges (drafted self.now).faces)) (length curves.now)) }
     {
         let sides = self.mesh.sides.as_slice();
         let mut marked = self.mesh.edges.iter().zip(curves);
