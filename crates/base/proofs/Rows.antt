@@ -1,7 +1,7 @@
 -- Which row refuses a record, test by test. Assumes nothing.
 use Rattle.std.proofs.Common.{◌≡◌, ℕ, true, false, cond, eqb, ltb, leb, List, [], ◌∷◌, ◌++◌, length, Some, None, sym, refl, ◌∙◌, arith}
 use Rattle.std.proofs.lemmas.Bool.{cond-true, cond-false, ne_eqb, or_right, or_from}
-use Rattle.refusal.specs.declared.Refusal.TheVariants.{OutOfOrder, BadVertex, BadCurve, TooMany}
+use Rattle.refusal.specs.declared.Refusal.TheVariants.{OutOfOrder, BadVertex, BadCurve, ThirdFace, TooMany}
 use Rattle.mesh.specs.declared.Side.{Side}
 use Rattle.mesh.specs.Reading.{Draft, empty, judged, out_of_order, bad_vertex, bad_curve, third_face, too_many}
 use Rattle.mesh.specs.Records.{Record, face, curve}
@@ -22,6 +22,9 @@ module _ (n : ℕ) (d : Draft) (r : Record) where
       row_curve e = cond-false (out_of_order d r) _ _ ordered ∙ cond-false (bad_vertex d r) _ _ known ∙ cond-true (bad_curve d r) _ _ e
 
       module _ (apart : bad_curve d r ≡ false) where
+        pub row_third : third_face d r ≡ true → judged n d r ≡ Some (ThirdFace n)
+        row_third e = cond-false (out_of_order d r) _ _ ordered ∙ cond-false (bad_vertex d r) _ _ known ∙ cond-false (bad_curve d r) _ _ apart ∙ cond-true (third_face d r) _ _ e
+
         module _ (room : third_face d r ≡ false) where
           last : judged n d r ≡ cond (too_many d r) (Some (TooMany n)) None
           last = cond-false (out_of_order d r) _ _ ordered ∙ cond-false (bad_vertex d r) _ _ known ∙ cond-false (bad_curve d r) _ _ apart ∙ cond-false (third_face d r) _ _ room

@@ -3,6 +3,7 @@ use Rattle.std.proofs.Common.{◌≡◌, ℕ, suc, zero, ◌+◌, ◌*◌, ◌<�
 use Rattle.std.proofs.lemmas.List.FromFn.{length-enumerate_from, get_or-enumerate_from}
 use Rattle.std.proofs.lemmas.Bool.{cases_lt, cond-true, cond-false, lt-ltb, le-ltb}
 use Rattle.std.proofs.lemmas.List.Sums.{fails_before_first, passes_at_first}
+use Rattle.std.proofs.lemmas.Slice.Zip.{get_or-zip, length-zip}
 use Rattle.std.specs.Bool.{then_some}
 use Rattle.std.specs.List.{position, position_or_len, filter_map, enumerate_from, zip}
 use Rattle.std.specs.Simd.{first_chunks}
@@ -32,6 +33,13 @@ lowest_numbered p xs d =
     lowest_position p (enumerate_from 0 xs) (0, d)
     ∙ ap (lowest (λ k. p (get_or (enumerate_from 0 xs) k (0, d)))) (length-enumerate_from 0 xs)
     ∙ lowest_same _ _ (length xs) (λ k l. ap p (get_or-enumerate_from 0 xs k (0, d) l ∙ ap (λ j. (j, get_or xs k d)) (zero-add k)))
+
+-- the same along two lists at once
+pub lowest_zipped : {A B : Type 0} (p : A × B → Bool) (xs : List A) (ys : List B) (d : A) (e : B) → position p (zip xs ys) ≡ lowest (λ k. p (get_or xs k d, get_or ys k e)) (min (length xs) (length ys))
+lowest_zipped p xs ys d e =
+    lowest_position p (zip xs ys) (d, e)
+    ∙ ap (lowest (λ k. p (get_or (zip xs ys) k (d, e)))) (length-zip xs ys)
+    ∙ lowest_same _ _ (min (length xs) (length ys)) (λ k l. ap p (get_or-zip xs ys k (d, e) (omega arith) (omega arith)))
 
 -- a search along the numbers below n
 pub lowest_found_in : (p : ℕ → Bool) (n : ℕ) (r : Option ℕ) → MatchOption r ((k : ℕ) → 0 ≤ k → k < n → p k ≡ false) (λ i. (0 ≤ i) × (i < n) × (p i ≡ true) × ((k : ℕ) → 0 ≤ k → k < i → p k ≡ false)) → r ≡ lowest p n

@@ -97,10 +97,9 @@ impl Draft {
         let face = Face::spelled(heap, body)?;
         self.judge_face(&face, number)?;
         let Draft { mesh, named } = self;
-        let mesh = mesh.with_face(&face)?;
-        if mesh.edges.len() > MOST_EDGES {
+        let Some(mesh) = mesh.with_face(&face, MOST_EDGES)? else {
             return Err(Fault::Refused(Refusal::TooMany(number)));
-        }
+        };
         Ok(Draft { mesh, named })
     }
 

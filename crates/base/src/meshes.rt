@@ -1,5 +1,5 @@
 // A mesh of polygons. Its ghost fields are what every mesh keeps: the sides and the edges are those of the faces.
-ghost use Rattle.std.specs.Prelude.{◌≡◌, ◌∷◌, ◌++◌, [], length, sum, IfOk};
+ghost use Rattle.std.specs.Prelude.{◌≡◌, ◌<◌, ◌≤◌, ◌∷◌, ◌++◌, [], length, sum, IfOk, IfSome, MatchOption};
 ghost use Rattle.mesh.specs.Shape.{sides as sides_of, edges as edges_of, marked};
 ghost use Rattle.base.specs.Faces.{parts};
 
@@ -37,10 +37,12 @@ impl Mesh {
         }
     }
 
-    // This mesh with one face more.
-    pub(crate) fn with_face(self, face: &Face) -> Result<Mesh, AllocError>
-        ensures dims { IfOk result (λ m. m.dims ≡ self.dims) }
-        ensures faces { IfOk result (λ m. parts m.sizes.items m.sides.items ≡ parts self.sizes.items self.sides.items ++ face.now.corners.items ∷ []) }
+    // This mesh with one face more, if it then has no more than `most` edges.
+    // They are counted before memory is taken for anything else, so that too many are told as that.
+    pub(crate) fn with_face(self, face: &Face, most: usize) -> Result<Option<Mesh>, AllocError>
+        ensures few { IfOk result (λ o. MatchOption o (most < length (edges_of (parts self.sizes.items self.sides.items ++ face.now.corners.items ∷ []))) (λ m. length m.edges.items ≤ most)) }
+        ensures dims { IfOk result (λ o. IfSome o (λ m. m.dims ≡ self.dims)) }
+        ensures faces { IfOk result (λ o. IfSome o (λ m. parts m.sizes.items m.sides.items ≡ parts self.sizes.items self.sides.items ++ face.now.corners.items ∷ [])) }
     {
         let Mesh {
             dims,
@@ -49,14 +51,17 @@ impl Mesh {
             mut edges,
         } = self;
         number_edges(&mut edges, &face.sides)?;
+        if edges.len() > most {
+            return Ok(None);
+        }
         sides.extend_from_slice(&face.sides)?;
         sizes.push(face.sides.len())?;
-        Ok(Mesh {
+        Ok(Some(Mesh {
             dims,
             sizes,
             sides,
             edges,
-        })
+        }))
     }
 
     // The edges whose mark is set.

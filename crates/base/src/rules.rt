@@ -1,10 +1,11 @@
 // The rules that can be judged only once all records are read.
-ghost use Rattle.std.specs.Prelude.{◌≡◌, not, length, IfOk, MatchResult, slice_index};
+ghost use Rattle.std.specs.Prelude.{◌≡◌, not, length, min, IfOk, MatchResult, slice_index};
 ghost use Rattle.mesh.specs.Lowest.{lowest};
 ghost use Rattle.mesh.specs.Reading.{checked, finished, open_edge, bad_valence};
 ghost use Rattle.mesh.specs.Rules.{fits};
 ghost use Rattle.mesh.specs.Shape.{degree, edges};
 ghost use Rattle.base.specs.Drafts.{drafted, Failed, Judged};
+ghost use Rattle.base.specs.Meshes.{with_marks};
 
 use crate::draft::Draft;
 use crate::sides::{count_at, count_uses, has_corner};
@@ -44,13 +45,13 @@ impl Draft {
             .collect(heap)
     }
 
-    // The lowest edge that has one face and was not named.
-    fn first_open_edge(&self) -> Option<usize>
-        ensures { result ≡ lowest (open_edge (finished (drafted self.now))) (length (edges (drafted self.now).faces)) }
+    // Of the edges that have a mark here, the lowest that has one face and is no curve.
+    fn first_open_edge(&self, curves: &[bool]) -> Option<usize>
+        ensures { result ≡ lowest (open_edge (with_marks self.now.mesh curves.now)) (min (length (edges (drafted self.now).faces)) (length curves.now)) }
     {
         let sides = self.mesh.sides.as_slice();
-        let mut edges = self.mesh.edges.iter().enumerate();
-        edges.position(|(e, edge)| count_uses(sides, *edge) == 1 && !self.has_named(e))
+        let mut marked = self.mesh.edges.iter().zip(curves);
+        marked.position(|(edge, curve)| count_uses(sides, *edge) == 1 && !*curve)
     }
 
     // The lowest vertex that lies in no face, or has too many edges.
@@ -65,13 +66,13 @@ impl Draft {
     pub(crate) fn judge(&self, heap: Global) -> Result<Vec<bool>, Fault>
         ensures { MatchResult result (λ v. Judged self.now v.items) (λ f. Failed f (checked (finished (drafted self.now)))) }
     {
-        if let Some(edge) = self.first_open_edge() {
+        let curves = self.mark_curves(heap)?;
+        if let Some(edge) = self.first_open_edge(&curves) {
             return Err(Fault::Refused(Refusal::OpenEdge(edge)));
         }
         if let Some(vertex) = self.first_bad_valence() {
             return Err(Fault::Refused(Refusal::BadValence(vertex)));
         }
-        let curves = self.mark_curves(heap)?;
         let curve_edges = self.mesh.marked_edges(heap, &curves)?;
         if let Some(vertex) = first_bad_dimension(&self.mesh.dims, &curve_edges) {
             return Err(Fault::Refused(Refusal::BadDimension(vertex)));
