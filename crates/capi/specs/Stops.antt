@@ -1,5 +1,5 @@
 -- Why a call of the library did not do its work.
-use Rattle.std.specs.Prelude.{◌≡◌, ℕ, Some, Ok, Err, Option, Result}
+use Rattle.std.specs.Prelude.{◌≡◌, ℕ, Some, None, Ok, Err, Option, Result}
 use Rattle.refusal.specs.declared.Fault.{Fault}
 use Rattle.refusal.specs.declared.Fault.TheVariants.{Refused as Refused-fault, Memory as Memory-fault}
 use Rattle.refusal.specs.declared.Refusal.{Refusal}
@@ -22,9 +22,9 @@ Stopped Memory due = Unit {0}
 Stopped (UnknownScheme code) due = ⊥
 Stopped (UnknownCall i) due = ⊥
 
--- the calls were not read: one was found to be unknown, or there was no memory
+-- the calls were not read: one was found to be unknown, or, where none was, there was no memory
 abbrev pub Unread : Option ℕ → Stop → Type 0
 Unread found (Refused e) = ⊥
-Unread found Memory = Unit {0}
+Unread found Memory = found ≡ None
 Unread found (UnknownScheme code) = ⊥
 Unread found (UnknownCall i) = found ≡ Some i

@@ -1,5 +1,5 @@
 // What a run is asked to do, and doing it.
-ghost use Rattle.std.specs.Prelude.{◌≡◌, map, length, IfOk};
+ghost use Rattle.std.specs.Prelude.{◌≡◌, ◌≤◌, min, map, length, IfOk};
 ghost use Rattle.lifting.specs.HalfSteps.{rule};
 ghost use Rattle.history.specs.Promise.{Promise, lent_to};
 ghost use Rattle.capi.specs.Jobs.{beside, written, SameMemory, Performs};
@@ -37,10 +37,12 @@ impl Job<'_> {
         read_all(self.heap, self.slots)
     }
 
+    // For an answer to each call that is made: no more are, however much room there is.
     fn room<V: Crossing>(&self) -> Result<Vec<Answer<V>>, AllocError>
-        ensures { IfOk result (λ v. length v.items ≡ length self.now.answers.now) }
+        ensures { IfOk result (λ v. length v.items ≡ min (length self.now.calls.now) (length self.now.answers.now)) }
     {
-        Ok(vec![in self.heap; Ok(Reply::Count(0)); self.answers.len()]?)
+        let count = self.calls.len().min(self.answers.len());
+        Ok(vec![in self.heap; Ok(Reply::Count(0)); count]?)
     }
 
     // Opens a form on the points with a move list and room for answers, makes the calls, and writes list and answers down as records.
@@ -54,7 +56,7 @@ impl Job<'_> {
         room: &mut [Answer<V>],
     ) -> Result<usize, Refusal>
         requires slots { length list.old ≡ length self.old.slots.now }
-        requires answers { length room.old ≡ length self.old.answers.now }
+        requires answers { length room.old ≤ length self.old.answers.now }
         ensures promise { Promise (H.meaning h.now) (rule S.Scheme V.ValueKind s.now) (S.Scheme.uniform s.now) self.old.depth calls.now (lent_to points.old list.old room.old) (lent_to points.new list.new room.new) result }
         ensures written { beside points.new self.new ≡ written V.Crossing.own result (beside points.old self.old) (lent_to points.new list.new room.new) }
         ensures same { SameMemory self.old self.new }

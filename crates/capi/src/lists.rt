@@ -19,15 +19,28 @@ pub(crate) fn read_all<R: Copy, T: From<R> + Copy>(
     records.iter().map(|record| T::from(*record)).collect(heap)
 }
 
-// The calls, or the first whose code is none.
+// The first call whose code is none.
+fn first_unknown(records: &[CallRecord]) -> Option<usize>
+    ensures { result ≡ unknown_call records.now }
+{
+    records
+        .iter()
+        .position(|record| !(1..=5).contains(&record.code))
+}
+
+// The calls, or the first whose code is none. All codes are looked at first, so that an unknown one is told whatever the memory, and takes none.
 pub(crate) fn read_calls<V: Crossing>(
     heap: Global,
     records: &[CallRecord],
 ) -> Result<Vec<Call<V>>, Stop>
     ensures { MatchResult result (λ v. (unknown_call records.now ≡ None) × (v.items ≡ map (call_of V.Crossing.arrives) records.now)) (Unread (unknown_call records.now)) }
 {
+    if let Some(i) = first_unknown(records) {
+        return Err(Stop::UnknownCall(i));
+    }
     let mut calls = Vec::new(heap);
     for (i, record) in records.iter().enumerate() {
+        // never, after the look above
         let Ok(call) = Call::try_from(*record) else {
             return Err(Stop::UnknownCall(i));
         };
