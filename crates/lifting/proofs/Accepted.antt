@@ -1,12 +1,9 @@
 -- A call at a level that is not refused: the level is below the finest, and there are as many values as finest vertices.
-use Rattle.std.proofs.Common.{◌≡◌, ℕ, ◌<◌, eqb, ltb, List, length, IfOk, Ok, Err, Result, sym, ap, subst, MatchResult}
+use Rattle.std.proofs.Common.{◌≡◌, ℕ, ◌<◌, eqb, ltb, List, length, IfOk, Ok, Err, Result, sym, subst, MatchResult}
 use Rattle.std.proofs.lemmas.Result.{MatchResult-at_ok}
 use Rattle.std.proofs.lemmas.Bool.{cond_both, eqb-true, ltb-true}
 use Rattle.hierarchy.specs.Meaning.{Meaning}
-use Rattle.kinds.specs.declared.point.Point.{Point}
 use Rattle.refusal.specs.declared.Refusal.{Refusal}
-use Rattle.schemes.specs.Fractions.{Fraction}
-use Rattle.schemes.specs.declared.steps.Step.{Step}
 use Rattle.lifting.specs.Calls.{at_level, unless_refused}
 
 abbrev Fitting : Meaning → ℕ → ℕ → Type 0
