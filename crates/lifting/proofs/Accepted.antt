@@ -8,6 +8,8 @@ use Rattle.refusal.specs.declared.Refusal.{Refusal}
 use Rattle.schemes.specs.Fractions.{Fraction}
 use Rattle.schemes.specs.declared.steps.Step.{Step}
 use Rattle.lifting.specs.Calls.{at_level, unless_refused}
+use Rattle.lifting.specs.Splines.{factors}
+use Rattle.lifting.specs.declared.points.Spline.{Spline}
 
 abbrev Fitting : Meaning → ℕ → ℕ → Type 0
 Fitting m n j = (n ≡ m.vertices m.levels) × (j < m.levels)
@@ -27,3 +29,10 @@ outcome m j (Ok x) before after made P e f make =
     let fits : Fitting m (length before) j = MatchResult-at_ok (λ _. Fitting m (length before) j) (λ _. Unit {0}) x (sym e) (judged m (length before) j) in
     subst P (sym f) (make fits.1 fits.0)
 outcome m j (Err d) before after made P e f make = f
+
+-- what is made of points by the table of a scheme that is named
+module _ (m : Meaning) (j : ℕ) (By : (Step → Fraction) → List Point → List Point → Type 0) (made : (Step → Fraction) → List Point → List Point) (law : (factor : Step → Fraction) (vs : List Point) → j < m.levels → length vs ≡ m.vertices m.levels → By factor vs (made factor vs)) where
+  pub by_table : {s : Spline} (t : Spline) → s ≡ t → (r : Result (Unit {0}) Refusal) (before after : List Point) → r ≡ at_level m (length before) j → after ≡ unless_refused r (made (factors t) before) before → MatchResult r (λ _. By (factors s) before after) (λ _. after ≡ before)
+  by_table {s} t e r before after result values =
+      outcome m j r before after (made (factors t) before) (By (factors s) before) result values
+      (λ below long. subst (λ factor. By factor before (made (factors t) before)) (ap factors (sym e)) (law (factors t) before below long))

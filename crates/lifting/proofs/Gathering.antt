@@ -28,10 +28,10 @@ module _ (read : ℕ → Bool) (ns : List ℕ) where
   kept_few : length (filter read ns) ≤ length ns
   kept_few = omega (arith, length-filter_both read (λ n. not (read n)) (λ _. refl) ns)
 
-  kept_next : (n : ℕ) → read n ≡ true → filter read (ns ++ n ∷ []) ≡ filter read ns ++ n ∷ []
+  pub kept_next : (n : ℕ) → read n ≡ true → filter read (ns ++ n ∷ []) ≡ filter read ns ++ n ∷ []
   kept_next n e = filter-append read ns (n ∷ []) ∙ ap (λ t. filter read ns ++ cond t (n ∷ []) []) e
 
-  kept_not : (n : ℕ) → read n ≡ false → filter read (ns ++ n ∷ []) ≡ filter read ns
+  pub kept_not : (n : ℕ) → read n ≡ false → filter read (ns ++ n ∷ []) ≡ filter read ns
   kept_not n e = filter-append read ns (n ∷ []) ∙ ap (λ t. filter read ns ++ cond t (n ∷ []) []) e ∙ append-nil (filter read ns)
 
 more_with : {V : Type 0} (c : Class) (xs : List V) (v : V) (q : Reads V) → length xs < 8 → more c v (with_read c xs q) ≡ with_read c (xs ++ v ∷ []) q
@@ -48,7 +48,7 @@ listed_next before next all = ap (λ r. before ++ r) (sym next) ∙ all
 
 -- a turn of the loop that gathers, in terms of what the sum holds
 module _ {V U : Type 0} (holds : U → Reads V → Type 0) (value : ℕ → V) (read : ℕ → Bool) (ns : List ℕ) (n : ℕ) (q : Reads V) (c : Class) where
-  gathered_next : length ns < 8 → read n ≡ true → more c (value n) (with_read c (map value (filter read ns)) q) ≡ with_read c (map value (filter read (ns ++ n ∷ []))) q
+  pub gathered_next : length ns < 8 → read n ≡ true → more c (value n) (with_read c (map value (filter read ns)) q) ≡ with_read c (map value (filter read (ns ++ n ∷ []))) q
   gathered_next few e =
       let xs = filter read ns in
       let long = length-map xs value in
@@ -76,7 +76,7 @@ module _ {m : Meaning} (lawful : Lawful m) {at : Layout} {n : ℕ} (laid : Laid 
   begins c is-j is-from = is-from ∙ start_is c ∙ ap (λ i. first_place m i c) is-j
 
   -- what a list names has a place among the values
-  listed_inside : (l : Link) (of : ℕ) (before after : List ℕ) (number : ℕ) → before ++ number ∷ after ≡ m.list at.level l of → first_place m at.level (target_class l) + number < n
+  pub listed_inside : (l : Link) (of : ℕ) (before after : List ℕ) (number : ℕ) → before ++ number ∷ after ≡ m.list at.level l of → first_place m at.level (target_class l) + number < n
   listed_inside l of before after number e =
       let k = length before in
       let here : get_or (m.list at.level l of) k 0 ≡ number = ap (λ xs. get_or xs k 0) (sym e) ∙ get_or-append_seam before number after 0 in

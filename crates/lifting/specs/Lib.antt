@@ -5,3 +5,4 @@ pub mod HalfSteps
 pub mod Travel
 pub mod Calls
 pub mod IntegerLifting
+pub mod Splines

@@ -13,5 +13,5 @@ mod way;
 
 pub use journey::travel;
 pub use levels::{analyse_level, synthesise_level};
-pub use points::{analyse_points, synthesise_points};
+pub use points::{Spline, analyse_points, synthesise_points};
 pub use way::Way;

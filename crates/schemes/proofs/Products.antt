@@ -1,5 +1,5 @@
 -- Sums and products of whole numbers: what `omega` does not multiply out, and what a positive factor keeps.
-use Rattle.std.proofs.Common.{◌≡◌, ℕ, ◌+◌, ◌*◌, ◌<◌, ℤ, pos, ◌+ℤ◌, ◌-ℤ◌, ◌*ℤ◌, nat_abs, ◌≤ℤ◌, ◌<ℤ◌, ap, ◌∙◌, arith}
+use Rattle.std.proofs.Common.{◌≡◌, ℕ, ◌+◌, ◌*◌, ◌<◌, ◌≤◌, ℤ, pos, ◌+ℤ◌, ◌-ℤ◌, ◌*ℤ◌, nat_abs, ◌≤ℤ◌, ◌<ℤ◌, ap, ◌∙◌, arith}
 use borrow.Author.Differences.{up, down}
 use Rattle.std.proofs.lemmas.Int.{ints, by_lt_z}
 
@@ -41,6 +41,14 @@ gap_times u d v e =
     let h = multiplied (up (gap u d)) (down (gap u d)) (up (gap v e)) (down (gap v e)) u d v e (gap_parts u d) (gap_parts v e) in
     let g = gap_parts (u * v + d * e) (u * e + d * v) in
     omega (arith, ints)
+
+pub gap_at_most : (u d v e : ℕ) → u + e ≤ v + d → gap u d ≤ℤ gap v e
+unfolding gap
+gap_at_most u d v e h = omega (arith, ints)
+
+-- each law of a ring that is needed: write every number as a gap, and multiply out
+pub times_commutes : (a b : ℤ) → a *ℤ b ≡ b *ℤ a
+times_commutes a b = omega (arith, ints)
 
 pub times_associates : (a b c : ℤ) → (a *ℤ b) *ℤ c ≡ a *ℤ (b *ℤ c)
 times_associates a b c = rw (gap_of a, gap_of b, gap_of c) (simp gap_times (gap_same _ _ _ _ (omega arith)))

@@ -53,3 +53,6 @@ module _ (a b : ℤ) (n : ℕ) (h : nat_abs a ≤ n) (k : nat_abs b ≤ n) (room
 
   pub sum_size : nat_abs (held a +ℤ held b) ≤ 2 * n
   sum_size = omega (arith, ints)
+
+  pub sum_fits : SFits w64 (held a +ℤ held b)
+  sum_fits = size_fits (held a +ℤ held b) (2 * n) sum_size room

@@ -3,6 +3,9 @@ use Rattle.std.proofs.Common.{◌≡◌, ℕ, ◌*◌, ℤ, pos, ◌+ℤ◌, ◌
 use Rattle.schemes.specs.Fractions.{Fraction, Same, ◌⊕◌, ◌⊗◌}
 use Rattle.schemes.proofs.Products.{gap_of, gap_pos, gap_times, gap_plus, gap_same, same_over}
 
+pub same_turned : (p q : Fraction) → Same p q → Same q p
+same_turned p q e = sym e
+
 -- (a b) c = (a c) b
 swapped : (a : ℤ) (m n : ℕ) → a *ℤ pos m *ℤ pos n ≡ a *ℤ pos n *ℤ pos m
 swapped a m n = rw (gap_of a, gap_pos m, gap_pos n) (simp gap_times (gap_same _ _ _ _ (omega arith)))

@@ -31,3 +31,18 @@ pub trait Factors {
     fn uniform_only(&self) -> bool
         ensures { result ≡ uniform_only self.now };
 }
+
+// A table that is lent is a table too.
+impl<F: Factors> Factors for &F {
+    ghost factor = { λ table. F.factor table.now };
+
+    ghost uniform_only = { λ table. F.uniform_only table.now };
+
+    fn factor(&self, step: Step) -> Factor {
+        (**self).factor(step)
+    }
+
+    fn uniform_only(&self) -> bool {
+        (**self).uniform_only()
+    }
+}
