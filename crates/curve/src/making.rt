@@ -37,6 +37,6 @@ impl Curve {
         ensures value { result ≡ (means self.now).vertices self.now.levels }
         ensures few { result ≤ 32768 }
     {
-        self.places()
+        self.vertices(self.levels)
     }
 }

@@ -89,6 +89,10 @@ impl Hierarchy for Curve {
         0
     }
 
+    fn places(&self) -> usize {
+        self.finest()
+    }
+
     fn list(&self, level: usize, link: Link, of: usize) -> Few {
         let Some(here) = self.refined(level) else {
             return Few::Nothing;

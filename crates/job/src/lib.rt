@@ -1,7 +1,7 @@
 // A job: a text with one command to a line, and what each line says.
 #![tactic(auto)]
 
-ghost use Rattle.std.specs.Prelude.{◌≡◌, ℕ, List, ◌++◌, length, Some, codes};
+ghost use Rattle.std.specs.Prelude.{◌≡◌, ℕ, List, ◌++◌, length, suc, Some, codes};
 ghost use Rattle.std.specs.Iterator.{YieldsFirstRef, item_count};
 ghost use Rattle.job.specs.Lines.{view, view_command, sentence};
 ghost use Rattle.job.specs.Meaning.{base, base_of, meaning};
@@ -39,20 +39,23 @@ pub fn parse_line<'a>(line: &'a str) -> Result<Option<Command<'a>>, Complaint<'a
     match words.next() {
         None => Ok(None),
         Some(word) if word.starts_with('#') => Ok(None),
-        Some("base") => Ok(Some(parse_base(line, words)?)),
+        Some("base") => Ok(Some(parse_base(words)?)),
         Some(word) => Err(Complaint::UnknownWord(word)),
     }
 }
 
-// What `line` says, of which the `arguments` come after the command.
-fn parse_base<'a>(line: &'a str, mut arguments: Words<'a>) -> Result<Command<'a>, Complaint<'a>>
-    ensures { view_command result ≡ base_of (length (words line.now)) (words arguments.entry.0.now) }
+// What a line says, of which the `arguments` come after the command.
+fn parse_base<'a>(mut arguments: Words<'a>) -> Result<Command<'a>, Complaint<'a>>
+    ensures { view_command result ≡ base_of (suc (length (words arguments.entry.0.now))) (words arguments.entry.0.now) }
 {
+    let usage = "base FILE";
     match (arguments.next(), arguments.next()) {
         (Some(file), None) => Ok(Command::Base(file)),
-        _ => Err(Complaint::WordCount {
-            usage: "base FILE",
-            given: Words(line).count(),
+        (_, None) => Err(Complaint::WordCount { usage, given: 1 }),
+        (_, Some(_)) => Err(Complaint::WordCount {
+            usage,
+            // the command's word and two more are taken; the line is not gone over again for them
+            given: 3 + arguments.count(),
         }),
     }
 }
@@ -71,6 +74,8 @@ impl<'a> Iterator for Words<'a> {
     fn next(&mut self) -> Option<&'a str> {
         let start = self.0.trim_start_matches(' ');
         if start.is_empty() {
+            // so that the spaces at the end are not gone over again
+            self.0 = start;
             return None;
         }
         let (word, rest) = start.split_once(' ').unwrap_or((start, ""));

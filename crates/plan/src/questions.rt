@@ -71,6 +71,10 @@ impl Hierarchy for Plan {
         self.block(level).map_or(0, |b| b.faces as usize)
     }
 
+    fn places(&self) -> usize {
+        self.finest()
+    }
+
     fn list(&self, level: usize, link: Link, of: usize) -> Span {
         self.view(level)
             .map_or(Span::none(), |view| view.find_span(link, of))

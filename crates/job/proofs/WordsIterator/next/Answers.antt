@@ -8,8 +8,8 @@ use Rattle.job.proofs.WordsIterator.next.Goals as goal
 pub returns-then-is_empty-clause-steps : goal.returns-then-is_empty-clause-steps
 returns-then-is_empty-clause-steps c =
     let trimmed = c.trim_start_matches-start in
-    let none = words_trimmed _ _ trimmed.ensures.matches ∙ ap words (nil_from_length trimmed.result.now (true-eqb _ 0 c.if-is_empty.ensures)) ∙ words_nil in
-    (none, none)
+    let none = ap words (nil_from_length trimmed.result.now (true-eqb _ 0 c.if-is_empty.ensures)) ∙ words_nil in
+    (words_trimmed _ _ trimmed.ensures.matches ∙ none, none)
 
 pub returns-clause-steps : goal.returns-clause-steps
 returns-clause-steps c =
