@@ -7,9 +7,35 @@ use hierarchy::Hierarchy;
 use history::{Answer, Call, Reply, Request, Slot};
 use kinds::Point;
 use plan::Plan;
-use refusal::Fault;
+use refusal::{Fault, Refusal};
 use schemes::{Cubic, Linear, Scheme};
 use std::io;
+
+// What ends the program. It is told by its cases, since that is what is printed of it.
+#[derive(Debug, Drop)]
+enum Trouble {
+    Refused(Refusal),
+    Unplanned(Fault),
+    Unprinted(io::Error),
+}
+
+impl From<Refusal> for Trouble {
+    fn from(e: Refusal) -> Trouble {
+        Trouble::Refused(e)
+    }
+}
+
+impl From<Fault> for Trouble {
+    fn from(e: Fault) -> Trouble {
+        Trouble::Unplanned(e)
+    }
+}
+
+impl From<io::Error> for Trouble {
+    fn from(e: io::Error) -> Trouble {
+        Trouble::Unprinted(e)
+    }
+}
 
 // As in transform_tests: a crate for these three lines would be no shorter.
 fn at(x: i32) -> Point {
@@ -152,7 +178,7 @@ fn quadrilateral(rt: &HostRuntime) -> Result<Plan, Fault> {
     Ok(plan)
 }
 
-fn main(rt: HostRuntime) -> anyhow::Result<()> {
+fn main(rt: HostRuntime) -> Result<(), Trouble> {
     let triangle = Curve::new(3, true, 2)?;
     crossing(&rt, &triangle, 2)?;
     crossing(&rt, &triangle, 3)?;

@@ -68,9 +68,13 @@ fn show<H: Hierarchy>(rt: &HostRuntime, h: &H) -> io::Result<()> {
     Ok(())
 }
 
-// A plan of the base in a table of just the needed numbers, and how many these are.
-fn planned(rt: &HostRuntime, bytes: &[u8], levels: usize) -> Result<(usize, Plan), Fault> {
-    let mut base = Base::start(rt.alloc())?;
+// A plan of the base that the bytes spell, in a table of just the needed numbers, and how many these are.
+fn planned(
+    rt: &HostRuntime,
+    mut base: Base,
+    bytes: &[u8],
+    levels: usize,
+) -> Result<(usize, Plan), Fault> {
     base.read(rt.alloc(), bytes)?;
     let need = needed(&base, levels)?;
     let mut plan = Plan::start(rt.alloc())?;
@@ -79,15 +83,17 @@ fn planned(rt: &HostRuntime, bytes: &[u8], levels: usize) -> Result<(usize, Plan
     Ok((need, plan))
 }
 
-fn show_base(rt: &HostRuntime, file: &str, levels: usize) -> io::Result<()> {
+fn show_base(rt: &HostRuntime, file: &str, levels: usize) -> anyhow::Result<()> {
     let bytes = fs::read(rt, file)?;
-    match planned(rt, &bytes, levels) {
+    let base = Base::start(rt.alloc())?;
+    match planned(rt, base, &bytes, levels) {
         Ok((need, plan)) => {
             println!(rt; "need {need}")?;
-            show(rt, &plan)
+            show(rt, &plan)?;
         }
-        Err(fault) => rt.println(fault),
+        Err(fault) => rt.println(fault)?,
     }
+    Ok(())
 }
 
 fn show_curve(rt: &HostRuntime, closed: bool, points: usize, levels: usize) -> io::Result<()> {
@@ -102,17 +108,19 @@ fn number(word: Option<&str>) -> usize {
     word.and_then(|word| word.parse().ok()).unwrap_or(0)
 }
 
-fn run_line(rt: &HostRuntime, line: &str) -> io::Result<()> {
+fn run_line(rt: &HostRuntime, line: &str) -> anyhow::Result<()> {
     let mut words = line.split(' ');
     match words.next() {
-        Some("base") => match words.next() {
-            Some(file) => show_base(rt, file, number(words.next())),
-            None => Ok(()),
-        },
-        Some("open") => show_curve(rt, false, number(words.next()), number(words.next())),
-        Some("closed") => show_curve(rt, true, number(words.next()), number(words.next())),
-        _ => rt.println("no such line"),
+        Some("base") => {
+            if let Some(file) = words.next() {
+                show_base(rt, file, number(words.next()))?;
+            }
+        }
+        Some("open") => show_curve(rt, false, number(words.next()), number(words.next()))?,
+        Some("closed") => show_curve(rt, true, number(words.next()), number(words.next()))?,
+        _ => rt.println("no such line")?,
     }
+    Ok(())
 }
 
 fn main(rt: HostRuntime) -> anyhow::Result<()> {

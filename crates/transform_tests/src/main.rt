@@ -9,9 +9,35 @@ use hierarchy::Hierarchy;
 use kinds::{Marks, Point, ValueKind};
 use lifting::{analyse_level, analyse_points, synthesise_level, synthesise_points};
 use plan::Plan;
+use refusal::{Fault, Refusal};
 use schemes::{Cubic, Factors, Linear, MarksScheme, Scheme};
 use std::fmt::Display;
 use std::{fs, io};
+
+// What ends the program. It is told by its cases, since that is what is printed of it.
+#[derive(Debug, Drop)]
+enum Trouble {
+    Faulty(Fault),
+    Unprinted(io::Error),
+}
+
+impl From<Fault> for Trouble {
+    fn from(e: Fault) -> Trouble {
+        Trouble::Faulty(e)
+    }
+}
+
+impl From<Refusal> for Trouble {
+    fn from(e: Refusal) -> Trouble {
+        Trouble::Faulty(Fault::Refused(e))
+    }
+}
+
+impl From<io::Error> for Trouble {
+    fn from(e: io::Error) -> Trouble {
+        Trouble::Unprinted(e)
+    }
+}
 
 fn at(x: i32) -> Point {
     Point::new(x, 0, 0)
@@ -37,12 +63,11 @@ fn show_marks(rt: &HostRuntime, marks: &[Marks]) -> io::Result<()> {
     show(rt, marks.iter().map(|mark| mark.flags))
 }
 
-// A plan of one level of subdivision, of the base in the file.
-fn planned(rt: &HostRuntime, file: &str) -> anyhow::Result<Plan> {
-    let bytes = fs::read(rt, file)?;
+// A plan of one level of subdivision.
+fn planned(rt: &HostRuntime, bytes: &[u8]) -> Result<Plan, Fault> {
     let mut plan = Plan::start(rt.alloc())?;
     let mut table = vec![in rt.alloc(); 0; 1024]?;
-    plan.plan_bytes(rt.alloc(), &bytes, 1, &mut table)?;
+    plan.plan_bytes(rt.alloc(), bytes, 1, &mut table)?;
     Ok(plan)
 }
 
@@ -53,7 +78,7 @@ fn there_and_back<H: Hierarchy, F: Factors>(
     h: &H,
     table: &F,
     points: &mut [Point],
-) -> anyhow::Result<()> {
+) -> Result<(), Trouble> {
     println!(rt; "{name}")?;
     show_points(rt, points)?;
     analyse_points(h, table, points, 0)?;
@@ -63,7 +88,7 @@ fn there_and_back<H: Hierarchy, F: Factors>(
     Ok(())
 }
 
-fn curves(rt: &HostRuntime) -> anyhow::Result<()> {
+fn curves(rt: &HostRuntime) -> Result<(), Trouble> {
     let triangle = Curve::new(3, true, 1)?;
     // amounts of this one are halves, so opposites that are rounded afresh do not lead back
     let mut points = [0, 8, 3, 5, 6, 1].map(at);
@@ -84,7 +109,7 @@ fn curves(rt: &HostRuntime) -> anyhow::Result<()> {
     )
 }
 
-fn marks(rt: &HostRuntime) -> anyhow::Result<()> {
+fn marks(rt: &HostRuntime) -> Result<(), Trouble> {
     let line = Curve::new(2, false, 1)?;
     let mut marks = [Marks { flags: 5 }, Marks { flags: 4 }, Marks { flags: 6 }];
     println!(rt; "open curve of 2, marks")?;
@@ -96,8 +121,9 @@ fn marks(rt: &HostRuntime) -> anyhow::Result<()> {
     Ok(())
 }
 
-fn quadrilateral(rt: &HostRuntime) -> anyhow::Result<()> {
-    let quadrilateral = planned(rt, "quadrilateral.base")?;
+fn quadrilateral(rt: &HostRuntime) -> Result<(), Trouble> {
+    let bytes = fs::read(rt, "quadrilateral.base")?;
+    let quadrilateral = planned(rt, &bytes)?;
     // down, edges that change before the face make its value 31 of 1; up, a face that reads edges not yet restored -14 of 16
     let mut points = [0, 10, 20, 30, 6, 15, 25, 14, 16].map(at);
     there_and_back(
@@ -118,13 +144,14 @@ fn quadrilateral(rt: &HostRuntime) -> anyhow::Result<()> {
     )
 }
 
-fn cube(rt: &HostRuntime) -> anyhow::Result<()> {
-    let cube = planned(rt, "cube.base")?;
+fn cube(rt: &HostRuntime) -> Result<(), Trouble> {
+    let bytes = fs::read(rt, "cube.base")?;
+    let cube = planned(rt, &bytes)?;
     let mut points = [at(64); 26];
     there_and_back(rt, "cube, cubic", &cube, &Cubic, &mut points)
 }
 
-fn main(rt: HostRuntime) -> anyhow::Result<()> {
+fn main(rt: HostRuntime) -> Result<(), Trouble> {
     curves(&rt)?;
     marks(&rt)?;
     quadrilateral(&rt)?;
