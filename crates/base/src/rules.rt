@@ -63,6 +63,7 @@ impl Draft {
     }
 
     // The marks of the edges, once this draft is finished and keeps the rules.
+    // They are made before the rules are judged: want of memory for them comes before a refusal.
     pub(crate) fn judge(&self, heap: Global) -> Result<Vec<bool>, Fault>
         ensures { MatchResult result (λ v. Judged self.now v.items) (λ f. Failed f (checked (finished (drafted self.now)))) }
     {
