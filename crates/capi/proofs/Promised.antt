@@ -77,9 +77,22 @@ written_roomier k extra (Ok n) before end few =
 written_roomier k extra (Err e) before end few = refl
 
 module _ {V : Type 0} (k : Crossing.Ghosts V) (m : Meaning) (l : Law V) (depth : ℕ) (calls : List CallRecord) (before left : Handed V) where
-  -- a run that was lent room for an answer to each call that is made, and no more
-  pub performs : (result : Result ℕ Stop) (answer : Result ℕ Refusal) → unknown_call calls ≡ None → result ≡ settled answer → (lent end : Lent V) (asked : List (Call V)) → asked ≡ map (call_of k.arrives) calls → lent.points ≡ before.points → lent.slots ≡ map (slot_of k.arrives) before.slots → length lent.answers ≡ min (length calls) (length before.answers) → length end.answers ≡ length lent.answers → Promise m l.rule l.uniform depth asked lent end answer → left ≡ written k answer before end → Performs k m l depth calls before left result
-  performs result answer all_known is lent end asked as_asked points slots room kept promise leaves =
+  pub performs : (result : Result ℕ Stop) (answer : Result ℕ Refusal) → unknown_call calls ≡ None → result ≡ settled answer → (lent end : Lent V) (asked : List (Call V)) → asked ≡ map (call_of k.arrives) calls → lent.points ≡ before.points → lent.slots ≡ map (slot_of k.arrives) before.slots → length lent.answers ≡ length before.answers → Promise m l.rule l.uniform depth asked lent end answer → left ≡ written k answer before end → Performs k m l depth calls before left result
+  performs result answer all_known is lent end asked as_asked points slots room promise leaves =
+      let run : Run k m l depth calls before left answer = record {
+        lent = lent;
+        end = end;
+        points = points;
+        slots = slots;
+        room = room;
+        promise = subst (λ cs. Promise m l.rule l.uniform depth cs lent end answer) as_asked promise;
+        leaves = leaves;
+      } in
+      inr (subst (λ o. Called o k m l depth calls before left result) (sym all_known) (answer, is, run))
+
+  -- the same, where room was lent for an answer to each call that is made, and no more
+  pub performs_with_just_room : (result : Result ℕ Stop) (answer : Result ℕ Refusal) → unknown_call calls ≡ None → result ≡ settled answer → (lent end : Lent V) (asked : List (Call V)) → asked ≡ map (call_of k.arrives) calls → lent.points ≡ before.points → lent.slots ≡ map (slot_of k.arrives) before.slots → length lent.answers ≡ min (length calls) (length before.answers) → length end.answers ≡ length lent.answers → Promise m l.rule l.uniform depth asked lent end answer → left ≡ written k answer before end → Performs k m l depth calls before left result
+  performs_with_just_room result answer all_known is lent end asked as_asked points slots room kept promise leaves =
       let extra : List (Answer V) = replicate (length before.answers - length lent.answers) (Ok (Count 0)) in
       let all : length (lent.answers ++ extra) ≡ length before.answers =
       omega (arith, length-append lent.answers extra, length-replicate {A = Answer V} (length before.answers - length lent.answers) (Ok (Count 0)), room, min-le_right (length calls) (length before.answers)) in
@@ -87,13 +100,6 @@ module _ {V : Type 0} (k : Crossing.Ghosts V) (m : Meaning) (l : Law V) (depth :
       room ∙ ap (λ n. min n (length before.answers)) (sym (ap length as_asked ∙ length-map calls (call_of k.arrives))) in
       let few : (n : ℕ) → answer ≡ Ok n → n ≤ length end.answers =
       λ n e. omega (arith, kept, few_made m l.rule l.uniform depth asked lent end n (subst (λ a. Promise m l.rule l.uniform depth asked lent end a) e promise)) in
-      let run : Run k m l depth calls before left answer = record {
-        lent = roomier extra lent;
-        end = roomier extra end;
-        points = points;
-        slots = slots;
-        room = all;
-        promise = subst (λ cs. Promise m l.rule l.uniform depth cs (roomier extra lent) (roomier extra end) answer) as_asked (promise_roomier m l.rule extra l.uniform depth asked lent end answer (length before.answers) enough all promise);
-        leaves = leaves ∙ written_roomier k extra answer before end few;
-      } in
-      inr (subst (λ o. Called o k m l depth calls before left result) (sym all_known) (answer, is, run))
+      performs result answer all_known is (roomier extra lent) (roomier extra end) asked as_asked points slots all
+      (promise_roomier m l.rule extra l.uniform depth asked lent end answer (length before.answers) enough all promise)
+      (leaves ∙ written_roomier k extra answer before end few)

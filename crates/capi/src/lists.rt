@@ -38,7 +38,7 @@ pub(crate) fn read_calls<V: Crossing>(
     if let Some(i) = first_unknown(records) {
         return Err(Stop::UnknownCall(i));
     }
-    let mut calls = Vec::new(heap);
+    let mut calls = Vec::with_capacity(heap, records.len())?;
     for (i, record) in records.iter().enumerate() {
         // never, after the look above
         let Ok(call) = Call::try_from(*record) else {
