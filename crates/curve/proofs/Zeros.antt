@@ -1,7 +1,7 @@
 -- The zeros at the end of a position say at which level its vertex was born. Assumes nothing.
-use Rattle.std.proofs.Common.{◌≡◌, ℕ, zero, suc, ◌+◌, ◌-◌, ◌/◌, ◌%◌, ◌^◌, ◌<◌, ◌≤◌, ap, ◌∙◌, ⊎_elim, arith}
+use Rattle.std.proofs.Common.{◌≡◌, ℕ, zero, suc, ◌+◌, ◌-◌, ◌/◌, ◌%◌, ◌^◌, ◌<◌, ◌≤◌, ap, ◌∙◌, ⊎_elim, add-one, arith}
 use lib.Count.{count_trailing_zeros, under}
-use Rattle.std.proofs.lemmas.Nat.{shr-shr}
+use Rattle.std.proofs.lemmas.Nat.{shr-shr, shr_le}
 use Rattle.levels.specs.Level.{Level}
 use Rattle.levels.specs.Finer.{level}
 use Rattle.curve.specs.Positions.{number_at}
@@ -18,6 +18,9 @@ zeros_odd k p e = ap (λ d. under d (count_trailing_zeros k (p / 2))) e
 -- a number that is halved once more
 half_more : (p k : ℕ) → p / 2 / 2 ^ k ≡ p / 2 ^ suc k
 half_more p k = shr-shr p 1 k ∙ ap (λ i. p / 2 ^ i) (omega arith)
+
+pub half_below : (p k : ℕ) → p / 2 ^ (k + 1) ≤ p / 2
+half_below p k = let less = shr_le (p / 2) k in omega (arith, half_more p k, ap (λ i. p / 2 ^ i) (add-one k))
 
 -- as many zeros as levels: a vertex of the coarsest level
 pub number_kept : (m : Level) (j k p : ℕ) → j ≤ k → j ≤ count_trailing_zeros k p → number_at m j p ≡ p / 2 ^ j

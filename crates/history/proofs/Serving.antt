@@ -1,7 +1,8 @@
 -- What a call knows once its checks have passed, and how it keeps what is promised of it.
-use Rattle.std.proofs.Common.{◌≡◌, ℕ, ◌≤◌, Bool, eqb, leb, List, length, Ok, Err, sym, refl, ap, ◌∙◌, zero-le}
+use Rattle.std.proofs.Common.{◌≡◌, ℕ, ◌-◌, ◌<◌, ◌≤◌, Bool, eqb, leb, List, length, Ok, Err, sym, refl, ap, ◌∙◌, ⊎_elim, zero-le, arith}
 use Rattle.std.specs.Prelude.{OnOk, IfErr}
-use Rattle.std.proofs.lemmas.Bool.{eqb-true, leb-true, ltb-true, eq-eqb, le-leb, cond-true}
+use Rattle.std.proofs.lemmas.List.{get_or_past}
+use Rattle.std.proofs.lemmas.Bool.{cases_lt, eqb-true, leb-true, ltb-true, eq-eqb, le-leb, and_parts, cond-true}
 use Rattle.hierarchy.specs.Meaning.{Meaning}
 use Rattle.hierarchy.specs.Lawful.{Lawful}
 use Rattle.kinds.specs.Groups.{Group}
@@ -19,7 +20,7 @@ use Rattle.history.specs.declared.slot.Slot.{Slot}
 use Rattle.history.specs.declared.state.State.{State}
 use Rattle.history.specs.Rows.{Verdict, and_then, unless_refused, answered, finest, opening_verdict, request_verdict}
 use Rattle.history.specs.Histories.{opening_on, begun, added, values, reply}
-use Rattle.history.specs.Memory.{Memory, lending, slot_verdict, call_verdict, memory_verdict, Allowed, Passed, taken_back, served, Stands, Kept}
+use Rattle.history.specs.Memory.{Memory, lending, last_slot, no_slot, names, slot_verdict, call_verdict, memory_verdict, Allowed, Passed, taken_back, served, Stands, Kept}
 use Rattle.history.proofs.Following.{passed, both_passed, refused_first, refused_answer, refused_stays, kept}
 
 -- travel between two depths that there are is not refused
@@ -61,7 +62,7 @@ allowed m st TakeBack e = ltb-true _ _ (passed _ _ e)
 allowed m st (Read place) e = ltb-true _ _ (passed _ _ e)
 
 module _ {V : Type 0} (m : Meaning) (r : Rule V) (mem : Memory V) where
-  passed_all : (request : Request V) → call_verdict m mem.state (length mem.points) (length mem.slots) request ≡ Ok tt → Passed m mem request
+  pub passed_all : (request : Request V) → call_verdict m mem.state (length mem.points) (length mem.slots) request ≡ Ok tt → Passed m mem request
   passed_all request h =
       let call = both_passed _ _ h in
       let rest = both_passed _ _ call.1 in
@@ -74,11 +75,26 @@ module _ {V : Type 0} (m : Meaning) (r : Rule V) (mem : Memory V) where
         allowed = allowed m mem.state request rest.1;
       }
 
+  -- the slot of the last surviving move stands in the list, and names a place and a depth
+  pub last_named : slot_verdict m r.zero mem TakeBack ≡ Ok tt → (mem.state.survivors - 1 < length mem.slots) × ((last_slot m r.zero mem).place < finest m) × ((last_slot m r.zero mem).depth ≤ m.levels)
+  last_named slot =
+      let named = and_parts _ _ (passed (names m (last_slot m r.zero mem)) _ slot) in
+      let place : (last_slot m r.zero mem).place < finest m = ltb-true _ _ named.0 in (
+        ⊎_elim
+            (λ (l : mem.state.survivors - 1 < length mem.slots). l)
+            (λ (l : length mem.slots ≤ mem.state.survivors - 1).
+            let none : (last_slot m r.zero mem).place ≡ finest m = ap (λ s. s.place) (get_or_past mem.slots (mem.state.survivors - 1) (no_slot m r.zero) l) in
+            absurd (omega arith))
+            (cases_lt (mem.state.survivors - 1) (length mem.slots)),
+        place,
+        leb-true _ _ named.1,
+      )
+
   module _ (lawful : Lawful m) (group : Group r.plus r.zero r.opposite) where
     straight : Straight m r
     straight = journeys.straight m r (level_undone m r lawful group)
 
-    refused_kept : (request : Request V) (e : Refusal) → memory_verdict m r.zero mem request ≡ Err e → Kept m r request mem (Err e) mem
+    pub refused_kept : (request : Request V) (e : Refusal) → memory_verdict m r.zero mem request ≡ Err e → Kept m r request mem (Err e) mem
     refused_kept request e h = kept m r straight group request mem (Err e) mem (sym (refused_answer _ h)) (sym (refused_stays _ mem h))
 
     -- what a check of a call tells

@@ -10,6 +10,7 @@ pub mod Told
 pub mod Settle
 pub mod Ends
 pub mod Worked
+pub mod Asked
 pub mod Finding
 pub mod Coarse
 pub mod Blocks

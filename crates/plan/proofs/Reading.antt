@@ -1,13 +1,14 @@
 -- What a block's arrays say while other parts of the table are written. Assumes nothing.
-use Rattle.std.proofs.Common.{◌≡◌, ℕ, ◌+◌, ◌<◌, Bool, true, false, cond, ltb, List, get_or, refl, ap, ◌∙◌}
+use Rattle.std.proofs.Common.{◌≡◌, ℕ, ◌+◌, ◌*◌, ◌<◌, Bool, true, false, cond, eqb, ltb, List, get_or, sym, refl, ap, ◌∙◌, arith}
 use mathlib.Core.Path.{fun_ext}
 use mir.Val.{bool_byte}
 use Rattle.std.specs.Borrow.{Bor}
 use Rattle.std.specs.Fn.{Shared}
-use Rattle.std.proofs.lemmas.Bool.{cond-true, lt-ltb, ltb-true}
+use Rattle.std.proofs.lemmas.Bool.{cond-true, cond-false, lt-ltb, ltb-true, eq-eqb, ne_eqb}
 use Rattle.plan.specs.Sorting.{Keeps}
 use Rattle.plan.proofs.Places.{kept_part}
 use Rattle.levels.specs.Level.{Level}
+use Rattle.levels.specs.Finer.{half_at}
 use Rattle.plan.specs.declared.block.Block.{Block}
 use Rattle.plan.specs.declared.block.Array.{Array}
 use Rattle.plan.specs.declared.block.Array.TheVariants.{Ends, Halves, Faces, FaceEnds, Curves, Dimensions}
@@ -36,6 +37,12 @@ decoded_kept t u b low high c k =
     let m = reads_kept t u b Curves low high c.curves k in
     let d = reads_kept t u b Dimensions low high c.dimensions k in
     λ i. of_arrays b (e i) (h i) (f i) (g i) (m i) (d i)
+
+pub half_then : (m : Level) (e s v t x : ℕ) → s ≡ e → t ≡ m.tail s → x ≡ v → t ≡ x → 2 * s ≡ half_at m e v
+half_then m e s v t x p q r h = omega (arith, cond-true {A = ℕ} (eqb (m.tail e) v) 0 1 (eq-eqb (m.tail e) v (sym (q ∙ ap m.tail p) ∙ h ∙ r)), p)
+
+pub half_else : (m : Level) (e s v t x : ℕ) → s ≡ e → t ≡ m.tail s → x ≡ v → (t ≡ x → ⊥) → 2 * s + 1 ≡ half_at m e v
+half_else m e s v t x p q r h = omega (arith, cond-false {A = ℕ} (eqb (m.tail e) v) 0 1 (ne_eqb (m.tail e) v (λ z. h (q ∙ ap m.tail p ∙ z ∙ sym r))), p)
 
 -- a mark as a number
 pub byte : (x : Bool) → bool_byte x ≡ cond x 1 0
