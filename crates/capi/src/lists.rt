@@ -40,7 +40,7 @@ pub(crate) fn read_calls<V: Crossing>(
     }
     let mut calls = Vec::with_capacity(heap, records.len())?;
     for (i, record) in records.iter().enumerate() {
-        // never, after the look above
+        // no code is unknown here: all of them were looked at first
         let Ok(call) = Call::try_from(*record) else {
             return Err(Stop::UnknownCall(i));
         };
